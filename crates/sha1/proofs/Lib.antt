@@ -1,0 +1,5 @@
+pub mod Windows
+pub mod Agree
+pub mod Padding
+pub mod Blocks
+pub mod TwelveBytes

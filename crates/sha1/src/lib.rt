@@ -31,7 +31,13 @@ impl Hash {
         ensures { λ r. ⌜ r ≡ Fips.initial ⌝ }
     {
         let h = Self::INITIAL;
-        Self { a: h[0], b: h[1], c: h[2], d: h[3], e: h[4] }
+        Self {
+            a: h[0],
+            b: h[1],
+            c: h[2],
+            d: h[3],
+            e: h[4],
+        }
     }
 }
 
@@ -47,10 +53,16 @@ pub fn digest(message: &[u8]) -> DigestAnswer
 {
     let n = message.len();
     if n > message::LIMIT {
-        return DigestAnswer { refusal: 2, words: [0; 5] };
+        return DigestAnswer {
+            refusal: 2,
+            words: [0; 5],
+        };
     }
     let h = message::hash(message);
-    DigestAnswer { refusal: 0, words: [h.a, h.b, h.c, h.d, h.e] }
+    DigestAnswer {
+        refusal: 0,
+        words: [h.a, h.b, h.c, h.d, h.e],
+    }
 }
 
 // The first word of the digest of twelve bytes: `high` in 8 and `low` in 4, highest byte first.

@@ -1,7 +1,6 @@
 // A message: its padding, its blocks, and the hash value after the last of them.
 use crate::Hash;
 use crate::rounds::compress;
-
 ghost use mathlib.Core.Path.{_≡_};
 ghost use Prim.Native.Nat.{_+_, _*_, _/_, _^_, _<_, _≤_};
 ghost use lib.ListN.{length, getD};
@@ -46,7 +45,7 @@ fn wide(byte: u8) -> u32
 }
 
 // Four bytes as a word, the first the highest.
-fn joined(a: u8, b: u8, c: u8, d: u8) -> u32 
+fn joined(a: u8, b: u8, c: u8, d: u8) -> u32
     ensures { λ r. ⌜ r ≡ a * 2 ^ 24 + b * 2 ^ 16 + c * 2 ^ 8 + d ⌝ }
 {
     wide(a) * 16777216 + wide(b) * 65536 + wide(c) * 256 + wide(d)
@@ -58,7 +57,12 @@ fn padded_word(message: &[u8], at: usize) -> u32
     ensures { λ r. ⌜ r ≡ word (pad (now (message .entry))) at ⌝ }
 {
     if at + 4 <= message.len() {
-        return joined(message[at], message[at + 1], message[at + 2], message[at + 3]);
+        return joined(
+            message[at],
+            message[at + 1],
+            message[at + 2],
+            message[at + 3],
+        );
     }
     joined(
         padded_byte(message, at),

@@ -1,20 +1,25 @@
 // One block: the sixteen-word schedule of section 6.1.3, its eighty rounds in four functions of
 // twenty, and the intermediate hash value.
 use crate::Hash;
-use crate::functions::{ch, maj, parity, rotl};
+use crate::functions::ch;
+use crate::functions::maj;
+use crate::functions::parity;
+use crate::functions::rotl;
 use std::num::wrapping_add_u32;
-
 ghost use mathlib.Core.Path.{_≡_};
 ghost use mathlib.Core.Bool.{true, false};
 ghost use Prim.Native.Nat.{_+_, _%_, _<_, _≤_};
-ghost use lib.ListN.{getD};
+ghost use lib.ListN.{length, getD};
 ghost use Rattle.sha1.specs.Fips180 as Fips;
 ghost use Rattle.sha1.specs.Fips180.{_⊞_, ROTL};
 ghost use Rattle.sha1.specs.Sixteen.{slide, window, run};
 
 const K0: u32 = 0x5a827999;
+
 const K20: u32 = 0x6ed9eba1;
+
 const K40: u32 = 0x8f1bbcdc;
+
 const K60: u32 = 0xca62c1d6;
 
 // The word of round t, once `w` has it.
@@ -25,7 +30,10 @@ fn scheduled(w: &mut [u32; 16], t: usize) -> u32
 {
     let s = t % 16;
     if t >= 16 {
-        w[s] = rotl(1, w[(t + 13) % 16] ^ w[(t + 8) % 16] ^ w[(t + 2) % 16] ^ w[s]);
+        w[s] = rotl(
+            1,
+            w[(t + 13) % 16] ^ w[(t + 8) % 16] ^ w[(t + 2) % 16] ^ w[s],
+        );
     }
     w[s]
 }
@@ -102,6 +110,7 @@ fn rounds_60(w: &mut [u32; 16], start: Hash) -> Hash
 
 // The hash value after one block more, whose sixteen words stand in `w`. The schedule overwrites them.
 pub fn compress(h: Hash, w: &mut [u32; 16]) -> Hash
+    requires { ⌜ length (now w) ≡ 16 ⌝ }
     ensures { λ r. ⌜ r ≡ Fips.compress h (now (w .entry)) ⌝ }
 {
     let v0 = rounds_0(&mut *w, h);

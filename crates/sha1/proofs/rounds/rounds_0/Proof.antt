@@ -1,0 +1,46 @@
+-- `sha1::rounds::rounds_0` meets its contract. The loop's invariant: the rounds 0 to t - 1 have led from `w` and `start` as given
+-- to `w` and `v` as they are.
+use mathlib.Core.Path.{_∙_}
+use Prim.Native.Nat.{_-_}
+use borrow.Author.Needs.{needs}
+use Rattle.sha1.proofs.Windows.{Ran, ran-none, ran-more, ran-all, round-0}
+use Rattle.sha1.proofs.rounds.rounds_0.Statement.{statement}
+use Rattle.sha1.proofs.rounds.rounds_0.Tie as tie
+
+abbrev Inv-loop : tie.InvT-loop
+Inv-loop w₀ v₀ t₀ w v t = Ran w₀ v₀ 0 t w v
+
+abbrev μ-loop : tie.MeasureT-loop
+μ-loop w₀ v₀ t₀ w v t = 20 - t
+
+loop-holds : tie.Need-loop-holds Inv-loop μ-loop
+loop-holds c = ran-none _ _ 0
+
+scheduled-requires : tie.Need-scheduled-requires Inv-loop μ-loop
+scheduled-requires c κs = search needs
+
+ch-requires : tie.Need-ch-requires Inv-loop μ-loop
+ch-requires c κs = search needs
+
+round-requires : tie.Need-round-requires Inv-loop μ-loop
+round-requires c κs = search needs
+
+add-t : tie.Need-add-t Inv-loop μ-loop
+add-t c = search needs
+
+loop-less : tie.Need-loop-less Inv-loop μ-loop
+loop-less c = search needs
+
+loop-again : tie.Need-loop-again Inv-loop μ-loop
+loop-again c =
+    ran-more (c .before .before .before .before .loop-test .taken) (c .before .before .before .before .before .loop .inv)
+    (c .before .before .scheduled .ensures)
+    (c .round .ensures ∙ round-0 _ _ _ (c .before .before .before .before .loop-test .taken) (c .before .ch .ensures))
+
+returns : tie.Need-returns Inv-loop μ-loop
+returns c = ran-all (c .loop-test .left) (c .before .loop .inv)
+
+pub rounds-0-spec : {M : Type 1} → statement M
+rounds-0-spec =
+    tie.close
+    (tie.spec Inv-loop μ-loop loop-holds scheduled-requires ch-requires round-requires add-t loop-less loop-again returns)

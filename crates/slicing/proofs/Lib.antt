@@ -1,0 +1,10 @@
+pub mod Counting
+pub mod Runs
+pub mod Intervals
+pub mod Ranks
+pub mod LargestRemainder
+pub mod Walk
+pub mod Filling
+pub mod SixSteps
+pub mod Least
+pub mod Vectors

@@ -1,0 +1,10 @@
+pub mod Limits
+pub mod Runs
+pub mod Devices
+pub mod LargestRemainder
+pub mod ShareRule
+pub mod SixSteps
+pub mod Changes
+pub mod Validity
+pub mod Ledger
+pub mod Demand3

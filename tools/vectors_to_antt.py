@@ -1,0 +1,159 @@
+#!/usr/bin/env python3
+"""Writes crates/slicing/proofs/Vectors.antt from a folder of test vectors (calls.in, calls.out, histories/).
+
+usage: tools/vectors_to_antt.py VECTORS > crates/slicing/proofs/Vectors.antt
+
+Each add, remove and resize of calls.in becomes a case with its whole answer, and each small history a list of its changes
+with the three numbers printed for each and the table at the end. Lines that are refused for their text (1 and 3) are left out.
+"""
+import re
+import sys
+from pathlib import Path
+
+HISTORIES = ["clean", "duel", "mixed", "tiny", "wild"] + [f"{i:02}" for i in range(1, 21) if i not in (6, 7, 16, 20)]
+
+
+def number(b):
+    return int.from_bytes(b, "big")
+
+
+def pool(text):
+    b = bytes.fromhex(text)
+    size, limit, n, q = number(b[5:13]), number(b[13:15]), number(b[15:17]), number(b[17:19])
+    devices = [(number(b[i : i + 2]), number(b[i + 2 : i + 6])) for i in range(19, 19 + 6 * n, 6)]
+    rows = [(number(b[i : i + 4]), number(b[i + 4 : i + 6])) for i in range(19 + 6 * n, len(b), 6)]
+    ends = [start for start, _ in rows[1:]] + [size]
+    return size, limit, devices, [(end - start, owner) for (start, owner), end in zip(rows, ends)]
+
+
+def listed(items):
+    return " ∷ ".join(items + ["[]"])
+
+
+def runs(rows):
+    return listed([f"({n} of {d})" for n, d in rows])
+
+
+def state(p):
+    size, limit, devices, rows = p
+    ds = listed([f"device {d} {c}" for d, c in devices])
+    return f"(record {{ range = {size}; limit = {limit}; devices = {ds}; table = {runs(rows)} }})"
+
+
+def moves(numbers):
+    return listed([f"move {' '.join(map(str, numbers[i : i + 4]))}" for i in range(0, len(numbers), 4)])
+
+
+def change(words):
+    return f"({' '.join(words)})"
+
+
+def calls(folder):
+    lines = zip((folder / "calls.in").read_text().split("\n"), (folder / "calls.out").read_text().split("\n"))
+    for place, (call, answer) in enumerate(lines, 1):
+        words = call.split()
+        if not words or words[0] not in ("add", "remove", "resize"):
+            continue
+        refusal, moved, count, after, *rows = answer.split()
+        yield (
+            f"-- line {place}",
+            f"called {state(pool(words[1]))} {change([words[0]] + words[2:-1])} {words[-1]}",
+            f"seen {refusal} {moved} {count} ({moves(list(map(int, rows)))})\n    {state(pool(after))}",
+        )
+
+
+def thousandths(text):
+    whole, _, rest = text.partition(".")
+    return str(int(whole) * 1000 + int((rest + "000")[:3]))
+
+
+def history(folder, name):
+    given = (folder / f"{name}.in").read_bytes().split(b"\n")
+    printed = (folder / f"{name}.out").read_text().split("\n")
+    table = [tuple(map(int, row.split())) for row in printed[printed.index("table") + 1 :] if row]
+    size, changes, answers = None, [], []
+    for line, answer in zip(given, printed[: printed.index("table")]):
+        _, refusal, moved, count = answer.split()
+        words = line.decode("latin-1").split(" ")
+        if words[0] == "range" and refusal == "0":
+            size = words[1:]
+        elif size and refusal not in ("1", "3") and words[0] != "range":
+            numbers = words[1:2] + [thousandths(c) for c in words[2:]]
+            changes.append(change([words[0]] + numbers))
+            answers.append(f"answered {refusal} {moved} {count}")
+    return size, changes, answers, [(n, d) for _, n, d in table]
+
+
+HEAD = """-- The definitions against the outside: changes made by a reference program that was written from document 01 alone, computed
+-- here and compared. Written by tools/vectors_to_antt.py.
+--
+--   direct-calls    the adds, removes and resizes of calls.in, with the whole answer
+--   history-NAME    the changes of histories/NAME.in, with what is printed of each and the table at the end
+use mathlib.Core.Path.{_≡_, refl}
+use mathlib.Core.List.{List, [], _∷_}
+use Prim.Native.Nat.{ℕ}
+use lib.ListN.{replicate}
+use Rattle.slicing.specs.Changes.{State, fresh, Change, add, remove, resize, Outcome, change}
+use Rattle.slicing.specs.Demand3.{written}
+use Rattle.slicing.specs.Devices.{device}
+use Rattle.slicing.specs.LargestRemainder.{largestRemainder}
+use Rattle.slicing.specs.Runs.{Run, _of_}
+use Rattle.slicing.specs.ShareRule.{shares}
+use Rattle.slicing.specs.SixSteps.{turns, Move, move}
+
+-- the refusal number, the moved points, the number of moves, the moves, the pool afterwards
+data Answer : Type 0 where
+  seen : ℕ → ℕ → ℕ → List Move → State → Answer
+
+-- a list of n places
+abbrev places : ℕ → List Move
+places n = replicate n (move 0 0 0 0)
+
+seenOf : Outcome → Answer
+seenOf o = seen (o .number) (o .moved) (o .count) (written o) (o .state)
+
+called : State → Change → ℕ → Answer
+called s k n = seenOf (change s (places n) k)
+
+-- what is printed of a line
+data Printed : Type 0 where
+  answered : ℕ → ℕ → ℕ → Printed
+
+-- what is printed of each change, and the table at the end
+data Replayed : Type 0 where
+  ends : List (Run ℕ) → Replayed
+  prints : Printed → Replayed → Replayed
+
+-- the list of `slices` has 4,096 places; no history here fills 64
+replay : State → List Change → Replayed
+replay s [] = ends (s .table)
+replay s (k ∷ ks) =
+    let o = change s (places 64) k in
+    prints (answered (o .number) (o .moved) (o .count)) (replay (o .state) ks)
+"""
+
+
+def main():
+    folder = Path(sys.argv[1])
+    out = [HEAD]
+    opened = "unfolding seenOf called change turns shares largestRemainder"
+    found = list(calls(folder))
+    out.append("direct-calls :\n    _≡_ {A = List Answer} (")
+    for note, call, _ in found:
+        out.append(f"    {note}\n    {call}\n    ∷")
+    out.append("    []) (")
+    for note, _, answer in found:
+        out.append(f"    {note}\n    {answer}\n    ∷")
+    out.append(f"    [])\n{opened}\ndirect-calls = refl\n")
+    for name in HISTORIES:
+        size, changes, answers, table = history(folder / "histories", name)
+        if not changes:
+            continue
+        prints = "".join(f"    (prints ({a})\n" for a in answers)
+        out.append(f"history-{name} : replay (fresh {' '.join(size)})\n    ({listed(changes)})\n    ≡")
+        out.append(f"{prints}    (ends ({runs(table)})){')' * len(answers)}")
+        out.append(f"unfolding replay change turns shares largestRemainder\nhistory-{name} = refl\n")
+    print("\n".join(out))
+
+
+main()
