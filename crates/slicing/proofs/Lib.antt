@@ -3,8 +3,13 @@ pub mod Runs
 pub mod Intervals
 pub mod Ranks
 pub mod LargestRemainder
+pub mod Devices
+pub mod ShareRule
 pub mod Walk
 pub mod Filling
 pub mod SixSteps
+pub mod Moves
 pub mod Least
+pub mod Changes
+pub mod Demand3
 pub mod Vectors

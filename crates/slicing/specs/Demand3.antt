@@ -78,22 +78,22 @@ pub record Rival (R : ℕ) (es : List Device) (owners : List ℕ) : Type 0 where
   pub whole : length owners ≡ R
   pub held : (d : ℕ) → present d es ≡ true → count d owners ≡ shareOf R es d
 
--- 'After an accepted call that found an entry': b the ledger before, c after it
-pub record Movement (R : ℕ) (b c : Ledger) (o : Outcome) : Type 0 where
+-- 'After an accepted call that found an entry': b the ledger before, c after it, and the moves written
+pub record Movement (R : ℕ) (b c : Ledger) (moved : ℕ) (ms : List Move) : Type 0 where
   -- 'no point is in two moves'
-  pub once : (i j x : ℕ) → i < o .count → j < o .count → InMove (moveAt (written o) i) x → InMove (moveAt (written o) j) x → i ≡ j
+  pub once : (i j x : ℕ) → i < length ms → j < length ms → InMove (moveAt ms i) x → InMove (moveAt ms j) x → i ≡ j
   -- 'for each point in a move the book named that move's old owner before the call'
-  pub named : (i x : ℕ) → i < o .count → InMove (moveAt (written o) i) x → b .owner x ≡ moveAt (written o) i .from
-  -- 'Moves cover exactly the points whose owner changed': none keeps its owner, and all lie in the range
-  pub changes : (i : ℕ) → i < o .count → moveAt (written o) i .from ≡ moveAt (written o) i .to → ⊥
-  pub ranged : (i : ℕ) → i < o .count → moveAt (written o) i .start + moveAt (written o) i .length ≤ R
-  -- 'The listed moves alone turn old owners into new'
-  pub alone : (x : ℕ) → c .owner x ≡ overwritten (written o) (b .owner) x
+  pub named : (i x : ℕ) → i < length ms → InMove (moveAt ms i) x → b .owner x ≡ moveAt ms i .from
+  -- 'Moves cover exactly the points whose owner changed': no move keeps its points' owner, and all lie in the range
+  pub changes : (i : ℕ) → i < length ms → moveAt ms i .from ≡ moveAt ms i .to → ⊥
+  pub ranged : (i : ℕ) → i < length ms → moveAt ms i .start + moveAt ms i .length ≤ R
+  -- 'the listed moves alone turn old owners into new'
+  pub alone : (x : ℕ) → c .owner x ≡ overwritten ms (b .owner) x
   -- 'The moved count equals the number of points in the moves and the sum of all reductions.'
-  pub moved : o .moved ≡ points (written o)
-  pub reduced : o .moved ≡ reductions (shares R (b .entries)) (shares R (c .entries))
-  -- 'No other way of giving out the points moves fewer.'
-  pub least : (rival : List ℕ) → Rival R (c .entries) rival → o .moved ≤ differing (b .owner) 0 rival
+  pub counted : moved ≡ points ms
+  pub reduced : moved ≡ reductions (shares R (b .entries)) (shares R (c .entries))
+  -- 'no other way of giving out the points moves fewer'
+  pub least : (rival : List ℕ) → Rival R (c .entries) rival → moved ≤ differing (b .owner) 0 rival
 
 -- a refused call leaves pool and list as they were and answers zeros
 pub record Untouched (s : State) (lent : List Move) (o : Outcome) : Type 0 where
@@ -107,9 +107,10 @@ pub record Claim (R M : ℕ) (s : State) (b c : Ledger) (lent : List Move) (o : 
   pub agreement : Agreement R M (o .state) c
   pub refused : 1 ≤ o .number → Untouched s lent o
   pub first : o .number ≡ 0 → length (b .entries) ≡ 0 → (o .moved ≡ 0) × (o .count ≡ 0)
-  pub movement : o .number ≡ 0 → 1 ≤ length (b .entries) → Movement R b c o
+  pub movement : o .number ≡ 0 → 1 ≤ length (b .entries) → Movement R b c (o .moved) (written o)
   -- 'List places after them stay.'
   pub fits : o .count ≤ length lent
+  pub counted : length (written o) ≡ o .count
   pub rest : o .list ≡ written o ++ drop (o .count) lent
 
 -- Each call's outcome is the one that 'One change' and 'Where a call stops' give: the step of the list is `change` itself.

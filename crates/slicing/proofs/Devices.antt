@@ -1,0 +1,105 @@
+-- The list of devices under add, remove and resize.
+--
+-- Rising: rising-count, rising-distinct, rising-weaken, rising-capacities
+-- present: present-count
+-- insert: insert-rising, insert-length; delete: delete-rising, delete-length; update: update-ids, update-length, update-rising
+use mathlib.Core.Path.{_≡_, refl, sym, ap, _∙_}
+use mathlib.Core.Bool.{Bool, true, false, cond, _||_}
+use mathlib.Core.List.{List, [], _∷_}
+use Prim.Native.Nat.{ℕ, zero, suc, _+_, _≤_, _<_}
+use native.Mathlib.Omega.{arith}
+use lib.Dec.{eqb, ltb}
+use lib.ListN.{length}
+use borrow.Author.Tests.{ltb-true, ltb-false, lt-ltb, le-ltb, eqb-true, eqb-false, eq-eqb, ne-eqb}
+use Rattle.slicing.specs.Devices.{Device, device, ids, capacities, present, insert, delete, update, Within, Rising}
+use Rattle.slicing.specs.Limits.{maxCapacity}
+use Rattle.slicing.specs.Runs.{one, count}
+use Rattle.slicing.proofs.Counting.{Distinct}
+
+rising-count : (a d : ℕ) (ds : List Device) → Rising a ds → d ≤ a → count d (ids ds) ≡ 0
+rising-count a d [] h l = refl
+rising-count a d (e ∷ ds) h l =
+    omega (arith, ap one (ne-eqb d (e .id) (λ k. omega (arith, h .0 .above))), rising-count (e .id) d ds (h .1) (omega (arith, h .0 .above)))
+
+pub rising-distinct : (a : ℕ) (ds : List Device) → Rising a ds → Distinct (ids ds)
+rising-distinct a [] h d = omega arith
+rising-distinct a (e ∷ ds) h d = go (eqb d (e .id)) refl (rising-distinct (e .id) ds (h .1) d)
+  where
+    go : (t : Bool) → eqb d (e .id) ≡ t → count d (ids ds) ≤ 1 → one t + count d (ids ds) ≤ 1
+    go true k ih = omega (arith, rising-count (e .id) d ds (h .1) (omega (arith, eqb-true d (e .id) k)))
+    go false k ih = omega arith
+
+rising-weaken : (a b : ℕ) (ds : List Device) → b ≤ a → Rising a ds → Rising b ds
+rising-weaken a b [] l h = tt
+rising-weaken a b (e ∷ ds) l h =
+    (record { above = omega (arith, h .0 .above); known = h .0 .known; some = h .0 .some; most = h .0 .most }, h .1)
+
+pub rising-capacities : (a : ℕ) (ds : List Device) → Rising a ds → length ds ≤ capacities ds
+rising-capacities a [] h = omega arith
+rising-capacities a (e ∷ ds) h = omega (arith, h .0 .some, rising-capacities (e .id) ds (h .1))
+
+pub present-count : (d : ℕ) (ds : List Device) → present d ds ≡ ltb 0 (count d (ids ds))
+present-count d [] = refl
+present-count d (e ∷ ds) = go (eqb d (e .id)) (present-count d ds)
+  where
+    go : (t : Bool) → present d ds ≡ ltb 0 (count d (ids ds)) → t || present d ds ≡ ltb 0 (one t + count d (ids ds))
+    go true ih = sym (lt-ltb 0 (one true + count d (ids ds)) (omega arith))
+    go false ih = let e : one false + count d (ids ds) ≡ count d (ids ds) = omega arith in ih ∙ ap (ltb 0) (sym e)
+
+-- ---- insert
+
+pub insert-length : (d c : ℕ) (ds : List Device) → length (insert d c ds) ≡ suc (length ds)
+insert-length d c [] = refl
+insert-length d c (e ∷ ds) = go (ltb d (e .id)) (insert-length d c ds)
+  where
+    go : (t : Bool) → length (insert d c ds) ≡ suc (length ds)
+        → length (cond t (device d c ∷ e ∷ ds) (e ∷ insert d c ds)) ≡ suc (suc (length ds))
+    go true ih = refl
+    go false ih = ap suc ih
+
+pub insert-rising : (a d c : ℕ) (ds : List Device) → Rising a ds → Within a (device d c) → count d (ids ds) ≡ 0 → Rising a (insert d c ds)
+insert-rising a d c [] h w k = (w, tt)
+insert-rising a d c (e ∷ ds) h w k =
+    go (ltb d (e .id)) refl (λ l. insert-rising (e .id) d c ds (h .1) (record { above = l; known = w .known; some = w .some; most = w .most }) (omega arith))
+  where
+    go : (t : Bool) → ltb d (e .id) ≡ t → (e .id < d → Rising (e .id) (insert d c ds)) → Rising a (cond t (device d c ∷ e ∷ ds) (e ∷ insert d c ds))
+    go true x ih =
+        (w, (record { above = ltb-true d (e .id) x; known = h .0 .known; some = h .0 .some; most = h .0 .most }, h .1))
+    go false x ih = (h .0, ih (step (eqb d (e .id)) refl))
+      where
+        step : (t : Bool) → eqb d (e .id) ≡ t → e .id < d
+        step true y = omega (arith, ap one y)
+        step false y = omega (arith, ltb-false d (e .id) x, eqb-false d (e .id) y)
+
+-- ---- delete
+
+pub delete-length : (d : ℕ) (ds : List Device) → length (delete d ds) + count d (ids ds) ≡ length ds
+delete-length d [] = refl
+delete-length d (e ∷ ds) = go (eqb d (e .id)) (delete-length d ds)
+  where
+    go : (t : Bool) → length (delete d ds) + count d (ids ds) ≡ length ds
+        → length (cond t (delete d ds) (e ∷ delete d ds)) + (one t + count d (ids ds)) ≡ suc (length ds)
+    go true ih = omega arith
+    go false ih = omega arith
+
+pub delete-rising : (a d : ℕ) (ds : List Device) → Rising a ds → Rising a (delete d ds)
+delete-rising a d [] h = tt
+delete-rising a d (e ∷ ds) h = go (eqb d (e .id)) (delete-rising (e .id) d ds (h .1))
+  where
+    go : (t : Bool) → Rising (e .id) (delete d ds) → Rising a (cond t (delete d ds) (e ∷ delete d ds))
+    go true ih = rising-weaken (e .id) a (delete d ds) (omega (arith, h .0 .above)) ih
+    go false ih = (h .0, ih)
+
+-- ---- update
+
+pub update-length : (d c : ℕ) (ds : List Device) → length (update d c ds) ≡ length ds
+update-length d c [] = refl
+update-length d c (e ∷ ds) = ap suc (update-length d c ds)
+
+pub update-rising : (a d c : ℕ) (ds : List Device) → Rising a ds → 1 ≤ c → c ≤ maxCapacity → Rising a (update d c ds)
+update-rising a d c [] h l m = tt
+update-rising a d c (e ∷ ds) h l m = (go (eqb d (e .id)), update-rising (e .id) d c ds (h .1) l m)
+  where
+    go : (t : Bool) → Within a (device (e .id) (cond t c (e .capacity)))
+    go true = record { above = h .0 .above; known = h .0 .known; some = l; most = m }
+    go false = record { above = h .0 .above; known = h .0 .known; some = h .0 .some; most = h .0 .most }
