@@ -29,54 +29,11 @@ use Rattle.slicing.proofs.Devices.{rising-distinct, present-count, inse
 use Rattle.slicing.proofs.Filling.{changing}
 use Rattle.slicing.proofs.Intervals.{within-bounds, intervals-owner}
 use Rattle.slicing.proofs.Least.{pointsOf-count, rival-count, rival-least}
-use Rattle.slicing.proofs.Moves.{Ascending, Named, overwritten-moves, named-moves, ascending-moves, points-moves}
+use Rattle.slicing.proofs.Moves.{overwritten-moves, named-moves, ascending-moves, separate-moves, points-moves}
+use Rattle.slicing.proofs.MovesAt.{ascending-at, ascending-once, ascending-next, named-at, changes-at, separate-at, overwritten-in, overwritten-out}
 use Rattle.slicing.proofs.Runs.{owners, length-expand, count-expand, total-relabel, expand-table, coalesced-table, ownerAt-expand}
 use Rattle.slicing.proofs.ShareRule.{total-shares, owners-shares, shares-distinct, shareOf-only}
 use Rattle.slicing.proofs.SixSteps.{Balanced, expand-old, total-turns, owned-newTable, changing-turns}
-
--- ---- moves by their place
-
-ascending-at : (R p : ℕ) (ms : List Move) → Ascending R p ms → (i : ℕ) → i < length ms
-    → (p ≤ moveAt ms i .start) × (moveAt ms i .start + moveAt ms i .length ≤ R)
-ascending-at R p [] h i l = absurd (omega arith)
-ascending-at R p (m ∷ ms) h zero l = (h .0, h .1)
-ascending-at R p (m ∷ ms) h (suc i) l =
-    let r : (m .start + m .length ≤ moveAt ms i .start) × (moveAt ms i .start + moveAt ms i .length ≤ R) =
-        ascending-at R (m .start + m .length) ms (h .2) i (omega arith) in
-    (omega (arith, h .0, r .0), r .1)
-
-ascending-once : (R p : ℕ) (ms : List Move) → Ascending R p ms → (i j x : ℕ) → i < length ms → j < length ms
-    → InMove (moveAt ms i) x → InMove (moveAt ms j) x → i ≡ j
-ascending-once R p [] h i j x k l a b = absurd (omega arith)
-ascending-once R p (m ∷ ms) h zero zero x k l a b = refl
-ascending-once R p (m ∷ ms) h zero (suc j) x k l a b =
-    absurd (omega (
-      arith,
-      within-bounds (m .start) (m .length) x a,
-      within-bounds (moveAt ms j .start) (moveAt ms j .length) x b,
-      ascending-at R (m .start + m .length) ms (h .2) j (omega arith),
-    ))
-ascending-once R p (m ∷ ms) h (suc i) zero x k l a b =
-    absurd (omega (
-      arith,
-      within-bounds (m .start) (m .length) x b,
-      within-bounds (moveAt ms i .start) (moveAt ms i .length) x a,
-      ascending-at R (m .start + m .length) ms (h .2) i (omega arith),
-    ))
-ascending-once R p (m ∷ ms) h (suc i) (suc j) x k l a b =
-    ap suc (ascending-once R (m .start + m .length) ms (h .2) i j x (omega arith) (omega arith) a b)
-
-named-at : (o : ℕ → ℕ) (ms : List Move) → Named o ms → (i x : ℕ) → i < length ms → InMove (moveAt ms i) x → o x ≡ moveAt ms i .from
-named-at o [] h i x l a = absurd (omega arith)
-named-at o (m ∷ ms) h zero x l a =
-    let r : (m .start ≤ x) × (x < m .start + m .length) = within-bounds (m .start) (m .length) x a in
-    h .0 x (r .0) (r .1)
-named-at o (m ∷ ms) h (suc i) x l a = named-at o ms (h .2) i x (omega arith) a
-
-changes-at : (o : ℕ → ℕ) (ms : List Move) → Named o ms → (i : ℕ) → i < length ms → moveAt ms i .from ≡ moveAt ms i .to → ⊥
-changes-at o [] h i l = absurd (omega arith)
-changes-at o (m ∷ ms) h zero l = h .1
-changes-at o (m ∷ ms) h (suc i) l = changes-at o ms (h .2) i (omega arith)
 
 -- ---- pool and ledger
 
@@ -189,10 +146,13 @@ module _ (s : State) (v : Valid s) (n : 1 ≤ length (s .devices)) (es : List De
         → Movement (s .range) (record { entries = s .devices; owner = o }) c (points (moves ts)) (moves ts)
     movement-settled c e f = record {
       once = ascending-once (total ts) 0 (moves ts) (ascending-moves ts);
-      named = named-at o (moves ts) (named-moves ts o was);
-      changes = changes-at o (moves ts) (named-moves ts o was);
       ranged = λ i l. omega (arith, size, ascending-at (total ts) 0 (moves ts) (ascending-moves ts) i l);
-      alone = f;
+      before = named-at o (moves ts) (named-moves ts o was);
+      after = λ i x l a. f x ∙ overwritten-in (total ts) 0 (moves ts) (ascending-moves ts) o i x l a;
+      changes = changes-at o (moves ts) (named-moves ts o was);
+      others = λ x h. f x ∙ overwritten-out (moves ts) o x h;
+      sorted = ascending-next (total ts) 0 (moves ts) (ascending-moves ts);
+      joined = separate-at (moves ts) (separate-moves ts);
       counted = refl;
       reduced = reduced ∙ ap (λ ds. reductions has (shares (s .range) ds)) (sym e);
       least = λ rival k. least rival (subst (λ ds. Rival (s .range) ds rival) e k);
@@ -259,23 +219,23 @@ module _ (s : State) (v : Valid s) (o : ℕ → ℕ) (w : 1 ≤ length (s .devic
       let q : Valid (settled s v n es r m) = valid-settled s v n es r m few fits in
       record {
         claim =
-          subst
-          (λ l. take (length (moves ts')) (moves ts' ++ drop (length (moves ts')) lent) ≡ l
-              → Claim (s .range) (s .limit) s ledger (feed ledger k 0 l) lent (accepted s lent es (newTable ts') (moves ts')))
-          (sym seam)
-          (λ e. record {
-            agreement = agreement-valid (settled s v n es r m) q (given k (s .devices) (moves ts') o)
-                (λ z x l. owners-settled s v n es r m o (w n) x l ∙ sym (given-some k (s .devices) (moves ts') o n x));
-            refused = λ h. absurd (omega arith);
-            first = λ h z. absurd (omega arith);
-            movement = λ h z.
-                subst (Movement (s .range) ledger (feed ledger k 0 (moves ts')) (points (moves ts'))) (sym e)
-                (movement-settled s v n es r m o (w n) (feed ledger k 0 (moves ts')) refl (given-some k (s .devices) (moves ts') o n));
-            fits = room;
-            counted = ap length e;
-            rest = ap (λ l. l ++ drop (length (moves ts')) lent) (sym e);
-          })
-          refl;
+            subst
+            (λ l. take (length (moves ts')) (moves ts' ++ drop (length (moves ts')) lent) ≡ l
+            → Claim (s .range) (s .limit) s ledger (feed ledger k 0 l) lent (accepted s lent es (newTable ts') (moves ts')))
+            (sym seam)
+            (λ e. record {
+              agreement = agreement-valid (settled s v n es r m) q (given k (s .devices) (moves ts') o)
+                  (λ z x l. owners-settled s v n es r m o (w n) x l ∙ sym (given-some k (s .devices) (moves ts') o n x));
+              refused = λ h. absurd (omega arith);
+              first = λ h z. absurd (omega arith);
+              movement = λ h z.
+                  subst (Movement (s .range) ledger (feed ledger k 0 (moves ts')) (points (moves ts'))) (sym e)
+                  (movement-settled s v n es r m o (w n) (feed ledger k 0 (moves ts')) refl (given-some k (s .devices) (moves ts') o n));
+              fits = room;
+              counted = ap length e;
+              rest = ap (λ l. l ++ drop (length (moves ts')) lent) (sym e);
+            })
+            refl;
         valid = q;
       }))
     where
@@ -379,5 +339,41 @@ module _ (R M : ℕ) (s : State) (b : Ledger) (v : Valid s) (a : Agreement R M s
   pub claim-change : Claim R M s b (feed b k (change s lent k .number) (written (change s lent k))) lent (change s lent k)
   claim-change = step .claim
 
-  pub valid-change : Valid (change s lent k .state)
-  valid-change = step .valid
+pub valid-change : (s : State) → Valid s → (lent : List Move) (k : Change) → Valid (change s lent k .state)
+valid-change s v lent k = step-change s v (ownerAt (s .table)) (λ n x l. refl) lent k .valid
+
+-- of every pool, valid or not
+module _ (s : State) (lent : List Move) where
+  abbrev Kept : Outcome → Type 0
+  Kept o = 1 ≤ o .number → Untouched s lent o
+
+  kept-stop : (t : Bool) (n : ℕ) (o : Outcome) → Kept o → Kept (stop s lent t (suc n) o)
+  kept-stop true n o h k = record { state = refl; list = refl; moved = refl; count = refl }
+  kept-stop false n o h k = h k
+
+  kept-accepted : (es : List Device) (table : List (Run ℕ)) (ms : List Move) → Kept (accepted s lent es table ms)
+  kept-accepted es table ms k = absurd (omega (arith, k))
+
+  kept-settled : (ts : List (Run Turn)) (es : List Device) → Kept (settledBy s lent ts es)
+  kept-settled ts es =
+      kept-stop (ltb (s .limit) (length (newTable ts))) 7 _
+      (kept-stop (ltb (length lent) (length (moves ts))) 8 _ (kept-accepted es (newTable ts) (moves ts)))
+
+  kept-settle : (es : List Device) → Kept (settle s lent es)
+  kept-settle es = kept-settled (turns (s .table) (shares (s .range) (s .devices)) (shares (s .range) es)) es
+
+  kept-admit : (d c : ℕ) (ds : List Device) → Kept (admit s lent d c ds)
+  kept-admit d c [] = kept-accepted (device d c ∷ []) ((s .range of d) ∷ []) []
+  kept-admit d c (e ∷ ds) = kept-settle (insert d c (e ∷ ds))
+
+  pub change-refused : (k : Change) → 1 ≤ change s lent k .number → Untouched s lent (change s lent k)
+  unfolding change
+  change-refused (add d c) =
+      kept-stop (outside maxId d || outside maxCapacity c) 1 _
+      (kept-stop (present d (s .devices)) 3 _ (kept-stop (leb maxDevices (length (s .devices))) 5 _ (kept-admit d c (s .devices))))
+  change-refused (remove d) =
+      kept-stop (outside maxId d) 1 _
+      (kept-stop (not (present d (s .devices))) 4 _ (kept-stop (leb (length (s .devices)) 1) 6 _ (kept-settle (delete d (s .devices)))))
+  change-refused (resize d c) =
+      kept-stop (outside maxId d || outside maxCapacity c) 1 _
+      (kept-stop (not (present d (s .devices))) 4 _ (kept-settle (update d c (s .devices))))

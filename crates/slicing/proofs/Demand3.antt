@@ -37,10 +37,9 @@ demand3-from : (R M : ℕ) (ks : List Call) (s : State) (b : Ledger) → Valid s
 demand3-from R M [] s b v a = tt
 demand3-from R M (k ∷ ks) s b v a =
     let o : Outcome = change s (k .lent) (k .change) in
-    let c : Ledger = feed b (k .change) (o .number) (written o) in
-    (
+    let c : Ledger = feed b (k .change) (o .number) (written o) in (
       claim-change R M s b v a (k .lent) (k .change),
-      demand3-from R M ks (o .state) c (valid-change R M s b v a (k .lent) (k .change)) (claim-change R M s b v a (k .lent) (k .change) .agreement),
+      demand3-from R M ks (o .state) c (valid-change s v (k .lent) (k .change)) (claim-change R M s b v a (k .lent) (k .change) .agreement),
     )
 
 pub demand3 : (s : State) (b : Ledger) → Start s b → (ks : List Call) → Demand3 (s .range) (s .limit) s b ks

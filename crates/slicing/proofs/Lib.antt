@@ -9,7 +9,9 @@ pub mod Walk
 pub mod Filling
 pub mod SixSteps
 pub mod Moves
+pub mod MovesAt
 pub mod Least
 pub mod Changes
 pub mod Demand3
+pub mod Examples
 pub mod Vectors

@@ -17,7 +17,7 @@ use lib.Dec.{eqb}
 use lib.ListN.{length, getD, take, drop}
 use Rattle.slicing.specs.Changes.{State, fresh, Change, Outcome, change}
 use Rattle.slicing.specs.Devices.{Device, ids, present}
-use Rattle.slicing.specs.Ledger.{Ledger, blank, opened, within, overwritten, feed}
+use Rattle.slicing.specs.Ledger.{Ledger, blank, opened, within, feed}
 use Rattle.slicing.specs.Limits.{maxRange, maxLimit}
 use Rattle.slicing.specs.Runs.{Interval, intervals, one, count}
 use Rattle.slicing.specs.ShareRule.{shares, shareOf}
@@ -80,15 +80,19 @@ pub record Rival (R : ℕ) (es : List Device) (owners : List ℕ) : Type 0 where
 
 -- 'After an accepted call that found an entry': b the ledger before, c after it, and the moves written
 pub record Movement (R : ℕ) (b c : Ledger) (moved : ℕ) (ms : List Move) : Type 0 where
-  -- 'no point is in two moves'
+  -- 'no point is in two moves', and all lie in the range
   pub once : (i j x : ℕ) → i < length ms → j < length ms → InMove (moveAt ms i) x → InMove (moveAt ms j) x → i ≡ j
-  -- 'for each point in a move the book named that move's old owner before the call'
-  pub named : (i x : ℕ) → i < length ms → InMove (moveAt ms i) x → b .owner x ≡ moveAt ms i .from
-  -- 'Moves cover exactly the points whose owner changed': no move keeps its points' owner, and all lie in the range
-  pub changes : (i : ℕ) → i < length ms → moveAt ms i .from ≡ moveAt ms i .to → ⊥
   pub ranged : (i : ℕ) → i < length ms → moveAt ms i .start + moveAt ms i .length ≤ R
+  -- 'for each point in a move the book named that move's old owner before the call'; the new one owns it after, and differs
+  pub before : (i x : ℕ) → i < length ms → InMove (moveAt ms i) x → b .owner x ≡ moveAt ms i .from
+  pub after : (i x : ℕ) → i < length ms → InMove (moveAt ms i) x → c .owner x ≡ moveAt ms i .to
+  pub changes : (i : ℕ) → i < length ms → moveAt ms i .from ≡ moveAt ms i .to → ⊥
   -- 'the listed moves alone turn old owners into new'
-  pub alone : (x : ℕ) → c .owner x ≡ overwritten ms (b .owner) x
+  pub others : (x : ℕ) → ((i : ℕ) → i < length ms → InMove (moveAt ms i) x → ⊥) → c .owner x ≡ b .owner x
+  -- 'lowest start first', 'touching moves of equal owners joined'
+  pub sorted : (i : ℕ) → suc i < length ms → moveAt ms i .start + moveAt ms i .length ≤ moveAt ms (suc i) .start
+  pub joined : (i : ℕ) → suc i < length ms → moveAt ms i .start + moveAt ms i .length ≡ moveAt ms (suc i) .start
+      → moveAt ms i .from ≡ moveAt ms (suc i) .from → moveAt ms i .to ≡ moveAt ms (suc i) .to → ⊥
   -- 'The moved count equals the number of points in the moves and the sum of all reductions.'
   pub counted : moved ≡ points ms
   pub reduced : moved ≡ reductions (shares R (b .entries)) (shares R (c .entries))
