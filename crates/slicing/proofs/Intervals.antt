@@ -38,13 +38,13 @@ intervals-first p [] l = absurd (omega arith)
 intervals-first p ((n of d) ∷ rs) l = refl
 
 pub intervals-next : (p : ℕ) (rs : List (Run ℕ)) (i : ℕ) → suc i < length (intervals p rs)
-    → intervalAt (intervals p rs) (suc i) .start ≡ intervalAt (intervals p rs) i .start + intervalAt (intervals p rs) i .length
+    → intervalAt (intervals p rs) (suc i) .start ≡ intervalAt (intervals p rs) i .start + intervalAt (intervals p rs) i .size
 intervals-next p [] i l = absurd (omega arith)
 intervals-next p ((n of d) ∷ rs) zero l = intervals-first (p + n) rs (omega arith)
 intervals-next p ((n of d) ∷ rs) (suc i) l = intervals-next (p + n) rs i (omega arith)
 
 pub intervals-longer : (p : ℕ) (rs : List (Run ℕ)) → Coalesced eqb rs → (i : ℕ) → i < length (intervals p rs)
-    → 1 ≤ intervalAt (intervals p rs) i .length
+    → 1 ≤ intervalAt (intervals p rs) i .size
 intervals-longer p [] h i l = absurd (omega arith)
 intervals-longer p ((n of d) ∷ rs) h zero l = h .0
 intervals-longer p ((n of d) ∷ rs) h (suc i) l = intervals-longer (p + n) rs (h .2) i (omega arith)

@@ -72,7 +72,7 @@ overwritten-movesFrom ((n of (a ⟶ b)) ∷ ts) p x o l u h =
 
 abbrev pub Named : (ℕ → ℕ) → List Move → Type 0
 Named o [] = Unit {0}
-Named o (m ∷ ms) = ((x : ℕ) → m .start ≤ x → x < m .start + m .length → o x ≡ m .from) × (m .from ≡ m .to → ⊥) × Named o ms
+Named o (m ∷ ms) = ((x : ℕ) → m .start ≤ x → x < m .start + m .size → o x ≡ m .from) × (m .from ≡ m .to → ⊥) × Named o ms
 
 pub named-movesFrom : (ts : List (Run Turn)) (p : ℕ) (o : ℕ → ℕ) → ((x : ℕ) → p ≤ x → x < p + total ts → o x ≡ old (turnAt ts (x - p)))
     → Named o (movesFrom p ts)
@@ -89,7 +89,7 @@ named-movesFrom ((n of (a ⟶ b)) ∷ ts) p o h =
 
 abbrev pub Ascending : ℕ → ℕ → List Move → Type 0
 Ascending R p [] = Unit {0}
-Ascending R p (m ∷ ms) = (p ≤ m .start) × (m .start + m .length ≤ R) × Ascending R (m .start + m .length) ms
+Ascending R p (m ∷ ms) = (p ≤ m .start) × (m .start + m .size ≤ R) × Ascending R (m .start + m .size) ms
 
 ascending-weaken : (R : ℕ) (ms : List Move) (p q : ℕ) → q ≤ p → Ascending R p ms → Ascending R q ms
 ascending-weaken R [] p q l h = tt
@@ -112,7 +112,7 @@ Parted p a b (m ∷ ms) = p ≡ m .start → a ≡ m .from → b ≡ m .to → �
 
 abbrev pub Separate : List Move → Type 0
 Separate [] = Unit {0}
-Separate (m ∷ ms) = Parted (m .start + m .length) (m .from) (m .to) ms × Separate ms
+Separate (m ∷ ms) = Parted (m .start + m .size) (m .from) (m .to) ms × Separate ms
 
 parted-later : (R : ℕ) (p q a b : ℕ) (ms : List Move) → p < q → Ascending R q ms → Parted p a b ms
 parted-later R p q a b [] l h = tt

@@ -31,16 +31,16 @@ pub record Call : Type 0 where
 
 -- interval i, move i
 abbrev pub intervalAt : List Interval → ℕ → Interval
-intervalAt is i = getD is i (record { start = 0; length = 0; owner = 0 })
+intervalAt is i = getD is i (record { start = 0; size = 0; owner = 0 })
 
 abbrev pub moveAt : List Move → ℕ → Move
 moveAt ms i = getD ms i (move 0 0 0 0)
 
 abbrev pub InInterval : Interval → ℕ → Type 0
-InInterval i x = within (i .start) (i .length) x ≡ true
+InInterval i x = within (i .start) (i .size) x ≡ true
 
 abbrev pub InMove : Move → ℕ → Type 0
-InMove m x = within (m .start) (m .length) x ≡ true
+InMove m x = within (m .start) (m .size) x ≡ true
 
 -- 'each point lies in exactly one interval of the table, whose owner is the one in the book'
 pub record OneInterval (is : List Interval) (x o : ℕ) : Type 0 where
@@ -82,7 +82,7 @@ pub record Rival (R : ℕ) (es : List Device) (owners : List ℕ) : Type 0 where
 pub record Movement (R : ℕ) (b c : Ledger) (moved : ℕ) (ms : List Move) : Type 0 where
   -- 'no point is in two moves', and all lie in the range
   pub once : (i j x : ℕ) → i < length ms → j < length ms → InMove (moveAt ms i) x → InMove (moveAt ms j) x → i ≡ j
-  pub ranged : (i : ℕ) → i < length ms → moveAt ms i .start + moveAt ms i .length ≤ R
+  pub ranged : (i : ℕ) → i < length ms → moveAt ms i .start + moveAt ms i .size ≤ R
   -- 'for each point in a move the book named that move's old owner before the call'; the new one owns it after, and differs
   pub before : (i x : ℕ) → i < length ms → InMove (moveAt ms i) x → b .owner x ≡ moveAt ms i .from
   pub after : (i x : ℕ) → i < length ms → InMove (moveAt ms i) x → c .owner x ≡ moveAt ms i .to
@@ -90,8 +90,8 @@ pub record Movement (R : ℕ) (b c : Ledger) (moved : ℕ) (ms : List Move) : Ty
   -- 'the listed moves alone turn old owners into new'
   pub others : (x : ℕ) → ((i : ℕ) → i < length ms → InMove (moveAt ms i) x → ⊥) → c .owner x ≡ b .owner x
   -- 'lowest start first', 'touching moves of equal owners joined'
-  pub sorted : (i : ℕ) → suc i < length ms → moveAt ms i .start + moveAt ms i .length ≤ moveAt ms (suc i) .start
-  pub joined : (i : ℕ) → suc i < length ms → moveAt ms i .start + moveAt ms i .length ≡ moveAt ms (suc i) .start
+  pub sorted : (i : ℕ) → suc i < length ms → moveAt ms i .start + moveAt ms i .size ≤ moveAt ms (suc i) .start
+  pub joined : (i : ℕ) → suc i < length ms → moveAt ms i .start + moveAt ms i .size ≡ moveAt ms (suc i) .start
       → moveAt ms i .from ≡ moveAt ms (suc i) .from → moveAt ms i .to ≡ moveAt ms (suc i) .to → ⊥
   -- 'The moved count equals the number of points in the moves and the sum of all reductions.'
   pub counted : moved ≡ points ms

@@ -81,13 +81,13 @@ module _ {A : Type 0} (eq : A → A → Bool) where
   Coalesced [] = Unit {0}
   Coalesced ((n of x) ∷ rs) = (1 ≤ n) × Differs x rs × Coalesced rs
 
--- 'An interval is a start, a length of at least 1 and an owner.'
+-- 'An interval is a start, a length of at least 1 and an owner.' The length is called size here
 pub record Interval : Type 0 where
   pub start : ℕ
-  pub length : ℕ
+  pub size : ℕ
   pub owner : ℕ
 
 -- 'The table lists intervals by rising start.'
 abbrev pub intervals : ℕ → List (Run ℕ) → List Interval
 intervals p [] = []
-intervals p ((n of d) ∷ rs) = record { start = p; length = n; owner = d } ∷ intervals (p + n) rs
+intervals p ((n of d) ∷ rs) = record { start = p; size = n; owner = d } ∷ intervals (p + n) rs

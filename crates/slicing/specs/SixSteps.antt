@@ -101,15 +101,15 @@ turns table has due = fill (walk (release has due) end false table) (needs has d
 abbrev pub newTable : List (Run Turn) → List (Run ℕ)
 newTable ts = coalesce eqb (relabel new ts)
 
--- 'A move is a start, a length, the old owner and the new.'
+-- 'A move is a start, a length, the old owner and the new.' The length is called size here
 pub record Move : Type 0 where
   pub start : ℕ
-  pub length : ℕ
+  pub size : ℕ
   pub from : ℕ
   pub to : ℕ
 
 abbrev pub move : ℕ → ℕ → ℕ → ℕ → Move
-move p n a b = record { start = p; length = n; from = a; to = b }
+move p n a b = record { start = p; size = n; from = a; to = b }
 
 -- the runs whose owner changes, the first run at point p
 abbrev pub movesFrom : ℕ → List (Run Turn) → List Move
@@ -122,4 +122,4 @@ moves ts = movesFrom 0 (coalesce sameTurn ts)
 
 abbrev pub points : List Move → ℕ
 points [] = 0
-points (m ∷ ms) = m .length + points ms
+points (m ∷ ms) = m .size + points ms
