@@ -1,0 +1,53 @@
+-- `bench_sha1::bench_sha1_many` meets its contract. The loop's invariant: `x` is the xor of the first `i` words.
+use mathlib.Core.Path.{_≡_, ap, ap₂, _∙_}
+use Prim.Native.Nat.{_≤_, _-_}
+use native.Mathlib.Numerals.{add-one}
+use native.Mathlib.Omega.{arith}
+use lib.Bits.{bitXor}
+use borrow.Author.Needs.{needs}
+use Rattle.bench_sha1.specs.Many.{many}
+use Rattle.bench_sha1.proofs.bench_sha1_many.Statement.{statement}
+use Rattle.bench_sha1.proofs.bench_sha1_many.Tie as tie
+
+abbrev Inv-loop : tie.InvT-loop
+Inv-loop count x₀ i₀ x i = (i ≤ count) × (x ≡ many i)
+
+abbrev μ-loop : tie.MeasureT-loop
+μ-loop count x₀ i₀ x i = count - i
+
+loop-holds : tie.Need-loop-holds Inv-loop μ-loop
+unfolding many
+loop-holds c = search needs
+
+cast-first-word : tie.Need-cast-first-word Inv-loop μ-loop
+cast-first-word c = search needs
+
+first-word-requires : tie.Need-first-word-requires Inv-loop μ-loop
+first-word-requires c κs = search needs
+
+add-i : tie.Need-add-i Inv-loop μ-loop
+add-i c = search needs
+
+loop-less : tie.Need-loop-less Inv-loop μ-loop
+loop-less c = search needs
+
+loop-again : tie.Need-loop-again Inv-loop μ-loop
+unfolding many
+loop-again c = (omega arith, rw add-one (ap₂ bitXor (c .before .before .loop .inv .1) (c .first-word .ensures)))
+
+returns : tie.Need-returns Inv-loop μ-loop
+returns c = c .before .loop .inv .1 ∙ ap many (omega arith)
+
+pub bench-sha1-many-spec : {M : Type 1} → statement M
+bench-sha1-many-spec =
+    tie.close
+    (tie.spec
+    Inv-loop
+    μ-loop
+    loop-holds
+    cast-first-word
+    first-word-requires
+    add-i
+    loop-less
+    loop-again
+    returns)
