@@ -118,7 +118,7 @@ parted-later : (R : ℕ) (p q a b : ℕ) (ms : List Move) → p < q → Ascendin
 parted-later R p q a b [] l h = tt
 parted-later R p q a b (m ∷ ms) l h = λ e f g. omega (arith, h .0)
 
-same-turn : (s t : Turn) → sameTurn s t ≡ true → s ≡ t
+pub same-turn : (s t : Turn) → sameTurn s t ≡ true → s ≡ t
 same-turn (a ⟶ b) (c ⟶ d) h = go (eqb a c) (eqb b d) refl refl h
   where
     go : (i j : Bool) → eqb a c ≡ i → eqb b d ≡ j → i && j ≡ true → (a ⟶ b) ≡ (c ⟶ d)
@@ -126,7 +126,7 @@ same-turn (a ⟶ b) (c ⟶ d) h = go (eqb a c) (eqb b d) refl refl h
     go true false e f k = cc
     go false j e f k = cc
 
-self-turn : (t : Turn) → sameTurn t t ≡ true
+pub self-turn : (t : Turn) → sameTurn t t ≡ true
 self-turn (a ⟶ b) = rw (eq-eqb a a refl, eq-eqb b b refl)
 
 parted-movesFrom : (p a b : ℕ) (ts : List (Run Turn)) → Differs sameTurn (a ⟶ b) ts → Coalesced sameTurn ts → Parted p a b (movesFrom p ts)

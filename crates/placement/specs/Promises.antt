@@ -1,0 +1,80 @@
+-- What the offered calls promise: for each, a record of equations for every pool value, every number and every list.
+--
+--   movesIn xs              the moves of a flat list, four numbers a place
+--   flat ms                 the numbers of moves
+--   Fresh R M r             r answers the call for a fresh pool
+--   Answered ..             the values of an answer, from an outcome of the rules
+--   Changed p lent k r l    r answers the change k on the pool p, and l is the lent list afterwards
+--   numberOf, shareIn       document 01's number and value of each answer to the call for a share
+--   Shared p id r           r answers the call for the share of id
+--   Planned p es places r   r is the plan of a change to the devices es, before anything is stored
+use mathlib.Core.Path.{_≡_}
+use mathlib.Core.Bool.{cond, _||_, not}
+use mathlib.Core.List.{List, [], _∷_, _++_}
+use Prim.Native.Nat.{ℕ, _*_}
+use lib.ListN.{length, drop}
+use Rattle.slicing.specs.Changes.{State, fresh, Change, Outcome, refused, settle, change}
+use Rattle.slicing.specs.Demand3.{written}
+use Rattle.slicing.specs.Devices.{Device, present}
+use Rattle.slicing.specs.Limits.{maxRange, maxLimit, maxId, outside}
+use Rattle.slicing.specs.ShareRule.{shareOf}
+use Rattle.slicing.specs.SixSteps.{Move, move}
+use Rattle.slicing_core.specs.Rows.{moveRows}
+use Rattle.placement.specs.Pools.{stateOf, poolOf, ValidPool}
+use Rattle.placement.specs.declared.ChangeAnswer.{ChangeAnswer}
+use Rattle.placement.specs.declared.Pool.{Pool}
+use Rattle.placement.specs.declared.PoolAnswer.{PoolAnswer}
+use Rattle.placement.specs.declared.ShareAnswer.{ShareAnswer}
+use Rattle.placement.specs.declared.ShareAnswer.the-variants.{Share, Refused}
+use Rattle.placement.specs.declared.settle.Plan.{Plan}
+
+abbrev pub movesIn : List ℕ → List Move
+movesIn [] = []
+movesIn (a ∷ []) = []
+movesIn (a ∷ b ∷ []) = []
+movesIn (a ∷ b ∷ c ∷ []) = []
+movesIn (a ∷ b ∷ c ∷ d ∷ xs) = move a b c d ∷ movesIn xs
+
+abbrev pub flat : List Move → List ℕ
+flat [] = []
+flat (m ∷ ms) = m .start ∷ m .size ∷ m .from ∷ m .to ∷ flat ms
+
+-- 'a refused call that makes a pool gives a fresh one with R = 1 and M = 1'
+pub record Fresh (R M : ℕ) (r : PoolAnswer) : Type 0 where
+  pub number : r .refusal ≡ cond (outside maxRange R || outside maxLimit M) 2 0
+  pub pool : r .pool ≡ poolOf (cond (outside maxRange R || outside maxLimit M) (fresh 1 1) (fresh R M))
+
+-- the answer that an outcome of the rules asks, with the pool p afterwards
+pub record Answered (lent : List ℕ) (o : Outcome) (p : Pool) (r : ChangeAnswer) (after : List ℕ) : Type 0 where
+  pub number : r .refusal ≡ o .number
+  pub moved : r .moved ≡ o .moved
+  pub count : r .count ≡ o .count
+  pub pool : r .pool ≡ p
+  pub list : after ≡ flat (written o) ++ drop (4 * o .count) lent
+
+-- of a valid pool the rules' outcome; any other is refused with 2
+pub record Changed (p : Pool) (lent : List ℕ) (k : Change) (r : ChangeAnswer) (after : List ℕ) : Type 0 where
+  pub valid : ValidPool p → Answered lent (change (stateOf p) (movesIn lent) k) (poolOf (change (stateOf p) (movesIn lent) k .state)) r after
+  pub invalid : (ValidPool p → ⊥) → Answered lent (refused (stateOf p) (movesIn lent) 2) p r after
+
+abbrev pub numberOf : ShareAnswer → ℕ
+numberOf (Share n) = 0
+numberOf (Refused n) = n
+
+abbrev pub shareIn : ShareAnswer → ℕ
+shareIn (Share n) = n
+shareIn (Refused n) = 0
+
+-- 2 for a pool that is not valid or an id outside its limits, 5 for an absent one, else the share
+pub record Shared (p : Pool) (id : ℕ) (r : ShareAnswer) : Type 0 where
+  pub number : ValidPool p → numberOf r ≡ cond (outside maxId id) 2 (cond (present id (stateOf p .devices)) 0 5)
+  pub share : ValidPool p → shareIn r ≡ cond (outside maxId id) 0 (shareOf (p .range) (stateOf p .devices) id)
+  pub invalid : (ValidPool p → ⊥) → r ≡ Refused 2
+
+pub record Planned (p : Pool) (es : List Device) (places : ℕ) (r : Plan) : Type 0 where
+  pub number : (lent : List Move) → length lent ≡ places → r .refusal ≡ settle (stateOf p) lent es .number
+  pub moved : (lent : List Move) → length lent ≡ places → r .moves .points ≡ settle (stateOf p) lent es .moved
+  pub count : (lent : List Move) → length lent ≡ places → r .moves .count ≡ settle (stateOf p) lent es .count
+  pub pool : (lent : List Move) → length lent ≡ places → r .pool ≡ poolOf (settle (stateOf p) lent es .state)
+  pub moves : (lent : List Move) → length lent ≡ places
+      → moveRows (r .moves .starts) (r .moves .sizes) (r .moves .labels) 0 (r .moves .count) ≡ written (settle (stateOf p) lent es)

@@ -1,0 +1,47 @@
+// The offered calls on a pool: a fresh pool, add, remove, resize, and the share of a device. Every call
+// takes any numbers and any pool value; a refusal answers its number and zeros, and leaves pool and
+// list as they were.
+mod arrays;
+mod change;
+mod list;
+mod settle;
+mod valid;
+
+pub use change::add;
+pub use change::fresh;
+pub use change::remove;
+pub use change::resize;
+pub use change::share;
+
+// A pool by value. Places from `devices` on, and from `intervals` on, are 0.
+pub struct Pool {
+    pub range: u64,
+    pub limit: u32,
+    pub devices: usize,
+    pub ids: [u16; 256],
+    pub capacities: [u32; 256],
+    pub intervals: usize,
+    pub starts: [u32; 4096],
+    pub owners: [u16; 4096],
+}
+
+// The answer of a call that makes a pool.
+pub struct PoolAnswer {
+    pub refusal: u32,
+    pub pool: Pool,
+}
+
+// The answer of a call that changes a pool: the refusal number or 0, the moved points, the number of
+// moves, and the pool afterwards.
+pub struct ChangeAnswer {
+    pub refusal: u32,
+    pub moved: u64,
+    pub count: usize,
+    pub pool: Pool,
+}
+
+// The answer of a call for a share.
+pub enum ShareAnswer {
+    Share(u64),
+    Refused(u32),
+}

@@ -1,0 +1,11 @@
+pub mod Rows
+pub mod OwnerRows
+pub mod QuotaRows
+pub mod Cutting
+pub mod Pushing
+pub mod Points
+pub mod Gaps
+pub mod Walking
+pub mod MoveRows
+pub mod JoinedRows
+pub mod Settled

@@ -1,0 +1,91 @@
+// Rows of devices, by rising id.
+ghost use mathlib.Core.Path.{_≡_};
+ghost use mathlib.Core.Bool.{true};
+ghost use Prim.Native.Nat.{ℕ, _+_, _-_, _≤_, _<_};
+ghost use lib.ListN.{length};
+ghost use Rattle.slicing.specs.Devices.{Rising, present};
+ghost use Rattle.slicing_core.specs.Rows.{at, deviceRows};
+ghost use Rattle.slicing_core.specs.Stages.{Decides, Inserted, Deleted, Position};
+
+// Whether the n devices are within their limits and their ids rise.
+pub fn rising(ids: &[u64; 256], capacities: &[u64; 256], n: usize) -> bool
+    requires { ⌜ n ≤ 256 ⌝ }
+    ensures { λ r. ⌜ Decides r (Rising 0 (deviceRows (now (ids .entry)) (now (capacities .entry)) 0 n)) ⌝ }
+{
+    let mut last = 0;
+    let mut i = 0;
+    while i < n {
+        let id = ids[i];
+        let capacity = capacities[i];
+        if id <= last {
+            return false;
+        }
+        if id > 65535 {
+            return false;
+        }
+        if capacity < 1 {
+            return false;
+        }
+        if capacity > 1000000 {
+            return false;
+        }
+        last = id;
+        i += 1;
+    }
+    true
+}
+
+// How many of the ids, from the first on, are below `id`.
+pub fn position(ids: &[u64; 256], n: usize, id: u64) -> usize
+    requires { ⌜ n ≤ 256 ⌝ }
+    ensures { λ r. ⌜ Position (now (ids .entry)) n id r ⌝ }
+{
+    let mut i = 0;
+    while i < n {
+        if ids[i] >= id {
+            return i;
+        }
+        i += 1;
+    }
+    i
+}
+
+// The rows with `value` at place p, those from there on moved up by one, the last one dropped.
+pub fn insert_row(rows: &[u64; 256], p: usize, value: u64) -> [u64; 256]
+    requires { ⌜ p < 256 ⌝ }
+    ensures { λ r. ⌜ Inserted (now (rows .entry)) p value r ⌝ }
+{
+    let mut into = [0u64; 256];
+    let mut i = 0;
+    while i < 256 {
+        if i < p {
+            into[i] = rows[i];
+        } else {
+            if i == p {
+                into[i] = value;
+            } else {
+                into[i] = rows[i - 1];
+            }
+        }
+        i += 1;
+    }
+    into
+}
+
+// The rows without that at place p, those after it moved down by one, and 0 at the end.
+pub fn delete_row(rows: &[u64; 256], p: usize) -> [u64; 256]
+    requires { ⌜ p < 256 ⌝ }
+    ensures { λ r. ⌜ Deleted (now (rows .entry)) p r ⌝ }
+{
+    let mut into = [0u64; 256];
+    let mut i = 0;
+    while i < 255 {
+        if i < p {
+            into[i] = rows[i];
+        } else {
+            into[i] = rows[i + 1];
+        }
+        i += 1;
+    }
+    into
+}

@@ -1,0 +1,104 @@
+// Shares by largest remainder.
+ghost use mathlib.Core.Path.{_≡_};
+ghost use Prim.Native.Nat.{_+_, _*_, _-_, _/_, _%_, _≤_, _<_, _^_};
+ghost use lib.ListN.{length};
+ghost use Rattle.slicing.specs.Devices.{capacities as capacitiesOf};
+ghost use Rattle.slicing.specs.LargestRemainder.{largestRemainder};
+ghost use Rattle.slicing_core.specs.Rows.{at, rows, deviceRows};
+ghost use Rattle.slicing_core.specs.Stages.{Below, Remainders};
+ghost use Rattle.slicing_core.specs.Stages.{rank as rankOf};
+
+// The sum of the capacities.
+fn sum(capacities: &[u64; 256], ids: &[u64; 256], n: usize) -> u64
+    requires { ⌜ (n ≤ 256) × Below 16000001 (now capacities) n ⌝ }
+    ensures { λ r. ⌜ r ≡ capacitiesOf (deviceRows (now (ids .entry)) (now (capacities .entry)) 0 n) ⌝ }
+{
+    let mut c = 0;
+    let mut i = 0;
+    while i < n {
+        c += capacities[i];
+        i += 1;
+    }
+    c
+}
+
+// What each device gets first, what its rounding leaves, and the points left over.
+struct Division {
+    floors: [u64; 256],
+    remainders: [u64; 256],
+    leftover: u64,
+}
+
+fn divided(range: u64, capacities: &[u64; 256], ids: &[u64; 256], n: usize, c: u64) -> Division
+    requires { ⌜ (n ≤ 256) × (range ≤ 2 ^ 32) × Below 16000001 (now capacities) n ⌝ }
+    requires { ⌜ (c ≡ capacitiesOf (deviceRows (now ids) (now capacities) 0 n)) × (1 ≤ c) ⌝ }
+    ensures { λ r. ⌜ Remainders range (now (ids .entry)) (now (capacities .entry)) n (r .floors) (r .remainders) (r .leftover) ⌝ }
+{
+    let mut floors = [0u64; 256];
+    let mut remainders = [0u64; 256];
+    let mut given = 0;
+    let mut i = 0;
+    while i < n {
+        let product = range * capacities[i];
+        floors[i] = product / c;
+        remainders[i] = product % c;
+        given += product / c;
+        i += 1;
+    }
+    Division {
+        floors: floors,
+        remainders: remainders,
+        leftover: range - given,
+    }
+}
+
+// How many devices go before the one at place p where points are left over: those with a larger
+// remainder, and of equal ones those with a lower id.
+fn rank(remainders: &[u64; 256], ids: &[u64; 256], n: usize, p: usize) -> u64
+    requires { ⌜ (n ≤ 256) × (p < n) ⌝ }
+    ensures { λ r. ⌜ r ≡ rankOf (now (remainders .entry)) (now (ids .entry)) p 0 n ⌝ }
+{
+    let own = remainders[p];
+    let id = ids[p];
+    let mut before = 0;
+    let mut i = 0;
+    while i < n {
+        let other = remainders[i];
+        if own < other {
+            before += 1;
+        } else {
+            if own == other {
+                if ids[i] < id {
+                    before += 1;
+                }
+            }
+        }
+        i += 1;
+    }
+    before
+}
+
+// The share of each of the n devices, n being at least 1.
+pub fn shares(range: u64, ids: &[u64; 256], capacities: &[u64; 256], n: usize) -> [u64; 256]
+    requires { ⌜ (n ≤ 256) × (range ≤ 2 ^ 32) × Below 16000001 (now capacities) n ⌝ }
+    requires { ⌜ 1 ≤ capacitiesOf (deviceRows (now ids) (now capacities) 0 n) ⌝ }
+    ensures shares { λ r. ⌜ rows r (now (ids .entry)) 0 n ≡ largestRemainder range (deviceRows (now (ids .entry)) (now (capacities .entry)) 0 n) ⌝ }
+    ensures { λ r. ⌜ length r ≡ 256 ⌝ }
+{
+    let c = sum(capacities, ids, n);
+    let d = divided(range, capacities, ids, n, c);
+    let floors = d.floors;
+    let remainders = d.remainders;
+    let leftover = d.leftover;
+    let mut into = [0u64; 256];
+    let mut i = 0;
+    while i < n {
+        if rank(&remainders, ids, n, i) < leftover {
+            into[i] = floors[i] + 1;
+        } else {
+            into[i] = floors[i];
+        }
+        i += 1;
+    }
+    into
+}
