@@ -1,0 +1,3 @@
+pub mod PoolLaws
+pub mod ValidParts
+pub mod Turning

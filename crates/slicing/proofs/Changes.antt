@@ -84,7 +84,7 @@ module _ (s : State) (v : Valid s) (n : 1 ≤ length (s .devices)) (es : List De
   abbrev ts : List (Run Turn)
   ts = turns (s .table) has due
 
-  balanced : Balanced (s .table) has due
+  pub balanced : Balanced (s .table) has due
   balanced = record {
     hasOnce = shares-distinct (s .range) (s .devices) (v .rising);
     dueOnce = shares-distinct (s .range) es r;

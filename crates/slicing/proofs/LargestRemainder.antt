@@ -3,6 +3,8 @@
 --   sum       total-largestRemainder     the shares sum to R
 --   owners    owners-largestRemainder    they are of the devices, in order
 --   distance  share-above, share-below   each lies strictly within one of R × c / C
+--   floors    floors-le                  what the devices get first is at most R
+--   order     lex-more, lex-same, lex-not    lex p e q d: whether (p, e) goes before (q, d)
 use mathlib.Core.Path.{_≡_, refl, sym, ap, _∙_}
 use mathlib.Core.Bool.{Bool, true, false, not, _&&_, _||_, false≢true}
 use mathlib.Core.List.{List, [], _∷_, List·Memᴰ, List·Memᴰ·head, List·Memᴰ·tail}
@@ -21,7 +23,7 @@ use Rattle.slicing.proofs.Ranks.{below, Ranked, ranks}
 use Rattle.slicing.proofs.Runs.{owners}
 
 -- (p, e) before (q, d): p above q, or equal and e below d
-abbrev lex : ℕ → ℕ → ℕ → ℕ → Bool
+abbrev pub lex : ℕ → ℕ → ℕ → ℕ → Bool
 lex p e q d = ltb q p || (eqb q p && ltb e d)
 
 lex-cases : (p e q d : ℕ) → lex p e q d ≡ true → (q < p) ⊎ ((q ≡ p) × (e < d))
@@ -33,13 +35,13 @@ lex-cases p e q d h = go (ltb q p) (eqb q p) (ltb e d) refl refl refl h
     go false true false x y z k = absurd (false≢true k)
     go false false c x y z k = absurd (false≢true k)
 
-lex-more : (p e q d : ℕ) → q < p → lex p e q d ≡ true
+pub lex-more : (p e q d : ℕ) → q < p → lex p e q d ≡ true
 lex-more p e q d h = rw (lt-ltb q p h)
 
-lex-same : (p e q d : ℕ) → q ≡ p → e < d → lex p e q d ≡ true
+pub lex-same : (p e q d : ℕ) → q ≡ p → e < d → lex p e q d ≡ true
 lex-same p e q d h k = rw (le-ltb q p (omega arith), eq-eqb q p h, lt-ltb e d k)
 
-lex-not : (p e q d : ℕ) → p ≤ q → (q ≡ p → d ≤ e) → lex p e q d ≡ false
+pub lex-not : (p e q d : ℕ) → p ≤ q → (q ≡ p → d ≤ e) → lex p e q d ≡ false
 lex-not p e q d h k = go (eqb q p) refl
   where
     go : (t : Bool) → eqb q p ≡ t → ltb q p || (t && ltb e d) ≡ false
@@ -128,7 +130,7 @@ rems-partial R C h (e ∷ ds) = go (ltb 0 (remainder R C e)) refl (rems-partial 
     go true k ih = omega (arith, mod-lt (R * e .capacity) h)
     go false k ih = omega (arith, ltb-false 0 (remainder R C e) k)
 
-floors-le : (R : ℕ) (ds : List Device) → 1 ≤ capacities ds → floors R (capacities ds) ds ≤ R
+pub floors-le : (R : ℕ) (ds : List Device) → 1 ≤ capacities ds → floors R (capacities ds) ds ≤ R
 floors-le R ds h = le-of-mul-le-mul-left {k = capacities ds} (omega (arith, rems-floors R (capacities ds) ds)) h
 
 leftover-partial : (R : ℕ) (ds : List Device) → 1 ≤ capacities ds → leftover R (capacities ds) ds ≤ partial R (capacities ds) ds

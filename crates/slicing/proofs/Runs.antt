@@ -5,11 +5,12 @@
 -- total: total-append, length-expand, total-coalesce, total-relabel, total-takePoints, total-dropPoints
 -- owned: owned-append, count-expand, owned-absent, total-owned, sum-owned, owned-coalesce, owned-split
 -- expand: expand-append, expand-relabel, expand-constant, expand-three, expand-coalesce
+-- map: map-replicate
 -- coalesce: coalesced-coalesce, coalesce-coalesced, coalesce-unique
 -- ownerAt: ownerAt-expand
 use mathlib.Core.Path.{_≡_, refl, sym, ap, _∙_}
 use mathlib.Core.Bool.{Bool, true, false, cond}
-use mathlib.Core.List.{List, [], _∷_, _++_, map, append-assoc}
+use mathlib.Core.List.{List, [], _∷_, _++_, map, map-append, append-assoc}
 use Prim.Native.Nat.{ℕ, zero, suc, _+_, _-_, _*_, _≤_, _<_, min}
 use native.Mathlib.Omega.{arith}
 use native.Mathlib.Nat.{sub-zero}
@@ -90,11 +91,7 @@ pub expand-constant : {A B : Type 0} (y : B) (rs : List (Run A)) → expand (rel
 expand-constant y [] = refl
 expand-constant y ((n of x) ∷ rs) = rw (expand-constant y rs) (replicate-append-replicate n (total rs) y)
 
-map-append : {A B : Type 0} (f : A → B) (xs ys : List A) → map f (xs ++ ys) ≡ map f xs ++ map f ys
-map-append f [] ys = refl
-map-append f (x ∷ xs) ys = ap (λ l. f x ∷ l) (map-append f xs ys)
-
-map-replicate : {A B : Type 0} (f : A → B) (n : ℕ) (x : A) → map f (replicate n x) ≡ replicate n (f x)
+pub map-replicate : {A B : Type 0} (f : A → B) (n : ℕ) (x : A) → map f (replicate n x) ≡ replicate n (f x)
 map-replicate f zero x = refl
 map-replicate f (suc n) x = ap (λ l. f x ∷ l) (map-replicate f n x)
 

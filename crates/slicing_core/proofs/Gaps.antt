@@ -13,12 +13,12 @@ use lib.Dec.{eqb}
 use lib.ListN.{length, set, take, drop, replicate, length-append, length-replicate, replicate-append-replicate, length-set}
 use lib.Seq.{getD-set-same}
 use Rattle.slicing.specs.Runs.{total, expand, Coalesced}
-use Rattle.slicing.proofs.Runs.{length-expand, expand-relabel, total-relabel, total-takePoints, total-dropPoints}
+use Rattle.slicing.proofs.Runs.{map-replicate, length-expand, expand-relabel, total-relabel, total-takePoints, total-dropPoints}
 use Rattle.slicing_core.specs.Rows.{at, rows}
 use Rattle.slicing_core.specs.Stages.{scratch, Held, Pushed, Filled}
 use Rattle.slicing_core.proofs.Rows.{rows-step, rows-before}
 use Rattle.slicing_core.proofs.Pushing.{pushed-total}
-use Rattle.slicing_core.proofs.Points.{map-replicate, take-run, drop-run, expand-takePoints, expand-dropPoints}
+use Rattle.slicing_core.proofs.Points.{take-run, drop-run, expand-takePoints, expand-dropPoints}
 
 -- ---- the needs
 

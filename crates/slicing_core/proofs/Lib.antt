@@ -1,4 +1,8 @@
 pub mod Rows
+pub mod Fills
+pub mod Shifts
+pub mod DeviceRows
+pub mod ShareRows
 pub mod OwnerRows
 pub mod QuotaRows
 pub mod Cutting

@@ -3,7 +3,6 @@
 --   Tallied s l q points i      of q rows in s and l, i were passed, and their points stand by label in points
 --   Parted s l k                row k is not empty, and its label is not that of the row before
 --
--- at: at-zeros
 -- owned: owned-le (at most all points), owned-store
 -- Tallied: tallied-none, tallied-total (no sum is above all points), tallied-more, tallied-all
 -- Coalesced: coalesced-rows, coalesced-at (rows are coalesced where each is parted)
@@ -21,11 +20,6 @@ use borrow.Author.Tests.{eqb-true, eqb-false, eq-eqb, ne-eqb}
 use Rattle.slicing.specs.Runs.{Run, _of_, one, total, owned, Differs, Coalesced}
 use Rattle.slicing_core.specs.Rows.{at, rows}
 use Rattle.slicing_core.proofs.Rows.{rows-step, rows-end}
-
-pub at-zeros : (n d : ℕ) → at (replicate n 0) d ≡ 0
-at-zeros zero d = refl
-at-zeros (suc n) zero = refl
-at-zeros (suc n) (suc d) = at-zeros n d
 
 -- ---- owned
 

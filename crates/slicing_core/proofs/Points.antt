@@ -2,7 +2,6 @@
 --
 --   given ps xs     the pieces ps, each point with its old owner and its new, where the points taken go to xs in order
 --
--- map: map-replicate
 -- take and drop: take-run, drop-run (a run that is within the first points), take-replicate, drop-replicate
 -- expand: expand-takePoints, expand-dropPoints, expand-fill (a filling depends on the points of the needs alone)
 use mathlib.Core.Path.{_≡_, refl, sym, ap, _∙_}
@@ -22,10 +21,6 @@ abbrev pub given : List (Run Mark) → List ℕ → List Turn
 given [] xs = []
 given ((n of kept d) ∷ ps) xs = replicate n (d ⟶ d) ++ given ps xs
 given ((n of taken d) ∷ ps) xs = map (λ e. d ⟶ e) (take n xs) ++ given ps (drop n xs)
-
-pub map-replicate : {A B : Type 0} (f : A → B) (n : ℕ) (x : A) → map f (replicate n x) ≡ replicate n (f x)
-map-replicate f zero x = refl
-map-replicate f (suc n) x = ap (λ l. f x ∷ l) (map-replicate f n x)
 
 module _ {A : Type 0} where
   pub take-run : (m k : ℕ) (x : A) (xs : List A) → take (m + k) (replicate m x ++ xs) ≡ replicate m x ++ take k xs

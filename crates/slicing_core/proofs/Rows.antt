@@ -3,7 +3,7 @@
 -- rows: rows-step, rows-end, rows-snoc, rows-same, rows-past, rows-put, rows-more, rows-before
 -- deviceRows: deviceRows-step, deviceRows-end, deviceRows-snoc, length-deviceRows
 -- moveRows: moveRows-snoc, moveRows-same, moveRows-put
--- at: at-total (a row is no longer than the rows)
+-- at: at-zeros, at-total (a row is no longer than the rows)
 use mathlib.Core.Path.{_≡_, refl, sym, ap, _∙_}
 use mathlib.Core.Bool.{Bool, true, false}
 use mathlib.Core.List.{List, [], _∷_, _++_}
@@ -13,7 +13,7 @@ use native.Mathlib.Omega.{arith}
 use native.Mathlib.Nat.{suc-add, add-zero, zero-add}
 use native.Mathlib.Numerals.{add-one}
 use lib.Dec.{eqb}
-use lib.ListN.{length, set}
+use lib.ListN.{length, set, replicate}
 use lib.Seq.{getD-set-same, getD-set-other}
 use borrow.Author.Tests.{eqb-true, eqb-false}
 use Rattle.slicing.specs.Devices.{Device, device}
@@ -125,6 +125,11 @@ moveRows-put p s l n q k x hp hs hl =
       moveRows-same (set p n q) (set s n k) (set l n x) p s l 0 n (λ j a b. getD-set-other p n j q 0 (λ e. omega arith))
           (λ j a b. getD-set-other s n j k 0 (λ e. omega arith)) (λ j a b. getD-set-other l n j x 0 (λ e. omega arith)),
     )
+
+pub at-zeros : (n i : ℕ) → at (replicate n 0) i ≡ 0
+at-zeros zero i = refl
+at-zeros (suc n) zero = refl
+at-zeros (suc n) (suc i) = at-zeros n i
 
 pub at-total : (s l : List ℕ) (i n j : ℕ) → i ≤ j → j < i + n → at s j ≤ total (rows s l i n)
 at-total s l i zero j h k = absurd (omega arith)

@@ -15,7 +15,7 @@ use lib.ListN.{length, set, take, length-set}
 use borrow.Author.Tests.{eqb-true, eqb-false, eq-eqb}
 use Rattle.slicing.specs.Runs.{Run, _of_, total, expand, takePoints, relabel, coalesce, Differs, Coalesced}
 use Rattle.slicing.specs.SixSteps.{end, Mark, kept, taken, walk, Turn, _⟶_, sameTurn, fill}
-use Rattle.slicing.proofs.Runs.{expand-relabel, coalesce-unique}
+use Rattle.slicing.proofs.Runs.{map-replicate, expand-relabel, coalesce-unique}
 use Rattle.slicing.proofs.Walk.{takens}
 use Rattle.slicing_core.specs.declared.cuts.Cut.{Cut}
 use Rattle.slicing_core.specs.Rows.{at, rows, turnOf}
@@ -23,7 +23,8 @@ use Rattle.slicing_core.specs.Stages.{scratch, Below, side, CutTo, Held,
 use Rattle.slicing_core.proofs.Rows.{rows-step, rows-end}
 use Rattle.slicing_core.proofs.Cutting.{cutTo-whole, cutTo-pieces, walk-cut}
 use Rattle.slicing_core.proofs.Pushing.{pushed-total}
-use Rattle.slicing_core.proofs.Points.{given, map-replicate, expand-takePoints, expand-dropPoints, expand-fill}
+use Rattle.slicing.proofs.Moves.{same-turn, self-turn}
+use Rattle.slicing_core.proofs.Points.{given, expand-takePoints, expand-dropPoints, expand-fill}
 use Rattle.slicing_core.proofs.Gaps.{filled-total, filled-needs}
 
 -- ---- turns as numbers
@@ -48,17 +49,6 @@ map-turnOf needs ids d k j m h =
     ∙ ap expand (relabel-turnOf needs ids d k j m h)
     ∙ expand-relabel (λ e. d ⟶ e) (takePoints k (rows needs ids j m))
     ∙ ap (map (λ e. d ⟶ e)) (expand-takePoints k (rows needs ids j m))
-
-same-turn : (s t : Turn) → sameTurn s t ≡ true → s ≡ t
-same-turn (a ⟶ b) (c ⟶ d) h = go (eqb a c) (eqb b d) refl refl h
-  where
-    go : (i j : Bool) → eqb a c ≡ i → eqb b d ≡ j → i && j ≡ true → (a ⟶ b) ≡ (c ⟶ d)
-    go true true e f k = cc (eqb-true a c e, eqb-true b d f)
-    go true false e f k = cc
-    go false j e f k = cc
-
-self-turn : (t : Turn) → sameTurn t t ≡ true
-self-turn (a ⟶ b) = rw (eq-eqb a a refl, eq-eqb b b refl)
 
 -- numbers that differ are turns that differ
 differ-turnOf : (x y : ℕ) → eqb x y ≡ false → sameTurn (turnOf x) (turnOf y) ≡ false

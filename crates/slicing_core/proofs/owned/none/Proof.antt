@@ -2,7 +2,7 @@
 use mathlib.Core.Path.{sym}
 use Prim.Native.Nat.{ℕ}
 use lib.ListN.{length-replicate}
-use Rattle.slicing_core.proofs.OwnerRows.{at-zeros}
+use Rattle.slicing_core.proofs.Rows.{at-zeros}
 use Rattle.slicing_core.proofs.owned.none.Statement.{statement}
 use Rattle.slicing_core.proofs.owned.none.Tie as tie
 

@@ -8,7 +8,7 @@ use lib.Seq.{getD-set-same, getD-set-other}
 use mathlib.Core.Logic.{⊎-elim}
 use borrow.Author.Needs.{needs}
 use Rattle.slicing_core.specs.Rows.{at}
-use Rattle.slicing_core.proofs.OwnerRows.{at-zeros}
+use Rattle.slicing_core.proofs.Rows.{at-zeros}
 use Rattle.slicing_core.proofs.QuotaRows.{Quoted, quoted-none, quoted-has, quoted-more, quoted-all}
 use Rattle.slicing_core.proofs.quotas.quotas.Statement.{statement}
 use Rattle.slicing_core.proofs.quotas.quotas.Tie as tie
@@ -78,16 +78,18 @@ loop-again c =
     let q = h .loop .inv .1 in
     let l = c .before .before .before .before .loop-test .taken in
     ⊎-elim
-    (λ w. rw (w .1, w .2)
-        (omega arith,
-        quoted-more (a .points .now) (a .ids .now) (a .due .now) (a .n) (h .loop .i) (h .loop .points) (h .loop .needs) l (h .before .pre .1) (h .before .pre .2) q _ (h .loop .needs) refl (q .needsSize)
-            (omega (arith, q .empty (h .loop .i) (omega arith), w .0 .taken)) (λ j n. refl)))
-    (λ w. rw (w .1, w .2)
-        (omega arith,
-        quoted-more (a .points .now) (a .ids .now) (a .due .now) (a .n) (h .loop .i) (h .loop .points) (h .loop .needs) l (h .before .pre .1) (h .before .pre .2) q 0 (set (h .loop .needs) (h .loop .i) (at (a .due .now) (h .loop .i) - at (h .loop .points) (at (a .ids .now) (h .loop .i)))) (omega (arith, w .0 .left))
-            (length-set (h .loop .needs) (h .loop .i) _ ∙ q .needsSize)
-            (getD-set-same (h .loop .needs) (h .loop .i) _ 0 (omega (arith, q .needsSize)))
-            (λ j n. getD-set-other (h .loop .needs) (h .loop .i) j _ 0 n)))
+    (λ w. rw (w .1, w .2) (
+      omega arith,
+      quoted-more (a .points .now) (a .ids .now) (a .due .now) (a .n) (h .loop .i) (h .loop .points) (h .loop .needs) l (h .before .pre .1) (h .before .pre .2) q _ (h .loop .needs) refl (q .needsSize)
+          (omega (arith, q .empty (h .loop .i) (omega arith), w .0 .taken)) (λ j n. refl),
+    ))
+    (λ w. rw (w .1, w .2) (
+      omega arith,
+      quoted-more (a .points .now) (a .ids .now) (a .due .now) (a .n) (h .loop .i) (h .loop .points) (h .loop .needs) l (h .before .pre .1) (h .before .pre .2) q 0 (set (h .loop .needs) (h .loop .i) (at (a .due .now) (h .loop .i) - at (h .loop .points) (at (a .ids .now) (h .loop .i)))) (omega (arith, w .0 .left))
+          (length-set (h .loop .needs) (h .loop .i) _ ∙ q .needsSize)
+          (getD-set-same (h .loop .needs) (h .loop .i) _ 0 (omega (arith, q .needsSize)))
+          (λ j n. getD-set-other (h .loop .needs) (h .loop .i) j _ 0 n),
+    ))
     (c .if1 .came)
 
 returns : tie.Need-returns Inv-loop μ-loop

@@ -1,0 +1,82 @@
+-- The parts of a share on rows of devices.
+--
+-- rank: rank-step, rank-end (a loop over the rows), rank-rows (it is the rules')
+-- floors: product-most, floors-most, remainders-rows
+-- share: floor-most, share-more, share-same, rows-shares
+use mathlib.Core.Path.{_≡_, refl}
+use mathlib.Core.List.{List}
+use Prim.Native.Nat.{ℕ, zero, suc, _+_, _*_, _-_, _/_, _%_, _≤_, _<_, _^_}
+use native.Mathlib.Nat.{mul-le-mul, div-le-self, le-trans}
+use native.Mathlib.Numerals.{add-one}
+use native.Mathlib.Omega.{arith}
+use borrow.Author.Tests.{lt-ltb, le-ltb}
+use Rattle.slicing.specs.Devices.{Device, device, capacities}
+use Rattle.slicing.specs.LargestRemainder.{before, floors, share, sharesOf, largestRemainder}
+use Rattle.slicing.specs.LargestRemainder as Rule
+use Rattle.slicing.specs.Runs.{one}
+use Rattle.slicing.proofs.LargestRemainder.{lex, floors-le}
+use Rattle.slicing_core.specs.Rows.{at, rows, deviceRows}
+use Rattle.slicing_core.specs.Stages.{Remainders, rank}
+use Rattle.slicing_core.proofs.Fills.{Filling}
+
+-- ---- the rank
+
+pub rank-step : (rems ids : List ℕ) (p i n : ℕ) → i < n
+    → rank rems ids p i (n - i) ≡ one (lex (at rems i) (at ids i) (at rems p) (at ids p)) + rank rems ids p (i + 1) (n - (i + 1))
+rank-step rems ids p i n h =
+    let e : n - i ≡ suc (n - (i + 1)) = omega arith in
+    rw (e, add-one i)
+
+pub rank-end : (rems ids : List ℕ) (p i n : ℕ) → n ≤ i → rank rems ids p i (n - i) ≡ 0
+rank-end rems ids p i n h = let e : n - i ≡ 0 = omega arith in rw e
+
+rank-rows : (R C : ℕ) (ids caps rems : List ℕ) (p i m : ℕ) → at rems p ≡ R * at caps p % C → ((k : ℕ) → k < i + m → at rems k ≡ R * at caps k % C)
+    → rank rems ids p i m ≡ Rule.rank (before R C) (deviceRows ids caps i m) (device (at ids p) (at caps p))
+rank-rows R C ids caps rems p i zero e h = refl
+rank-rows R C ids caps rems p i (suc m) e h =
+    rw (rank-rows R C ids caps rems p (suc i) m e (λ k l. h k (omega arith)), h i (omega arith), e)
+
+-- ---- what each device gets first, of at most 2 ^ 32 points and by capacities of at most 16,000,000
+
+pub product-most : {R c : ℕ} → R ≤ 2 ^ 32 → c < 16000001 → R * c ≤ 2 ^ 32 * 16000000
+product-most h l = mul-le-mul {m₂ = 16000000} h (omega arith)
+
+pub floors-most : (R C : ℕ) (ids caps : List ℕ) (n : ℕ) → C ≡ capacities (deviceRows ids caps 0 n) → 1 ≤ C → floors R C (deviceRows ids caps 0 n) ≤ R
+floors-most R C ids caps n e h = rw e (floors-le R (deviceRows ids caps 0 n) (omega arith))
+
+pub remainders-rows : {R n C given : ℕ} {ids caps fl rs : List ℕ} → C ≡ capacities (deviceRows ids caps 0 n)
+    → Filling (λ k. R * at caps k / C) fl n → Filling (λ k. R * at caps k % C) rs n → given ≡ floors R C (deviceRows ids caps 0 n)
+    → Remainders R ids caps n fl rs (R - given)
+remainders-rows e f r g = record {
+  floorsSize = f .size;
+  remaindersSize = r .size;
+  floored = rw (← e) (f .done);
+  remained = rw (← e) (r .done);
+  left = rw (← e, g);
+}
+
+-- ---- the share of the device at place p
+
+module _ {R n left : ℕ} {ids caps fl rs : List ℕ} (d : Remainders R ids caps n fl rs left) (p : ℕ) (l : p < n) where
+  pub floor-most : R ≤ 2 ^ 32 → at caps p < 16000001 → at fl p ≤ 2 ^ 32 * 16000000
+  floor-most h c = rw (d .floored p l) (le-trans (div-le-self (R * at caps p) (capacities (deviceRows ids caps 0 n))) (product-most h c))
+
+  ranked : rank rs ids p 0 n ≡ Rule.rank (before R (capacities (deviceRows ids caps 0 n))) (deviceRows ids caps 0 n) (device (at ids p) (at caps p))
+  ranked = rank-rows R (capacities (deviceRows ids caps 0 n)) ids caps rs p 0 n (d .remained p l) (λ k m. d .remained k (omega arith))
+
+  pub share-more : rank rs ids p 0 n < left → at fl p + 1 ≡ share R (deviceRows ids caps 0 n) (device (at ids p) (at caps p))
+  share-more h = rw (d .floored p l, ← ranked, ← d .left, lt-ltb (rank rs ids p 0 n) left h)
+
+  pub share-same : left ≤ rank rs ids p 0 n → at fl p ≡ share R (deviceRows ids caps 0 n) (device (at ids p) (at caps p))
+  share-same h = rw (d .floored p l, ← ranked, ← d .left, le-ltb (rank rs ids p 0 n) left h) (omega arith)
+
+rows-sharesOf : (R : ℕ) (ds : List Device) (r ids caps : List ℕ) (i m : ℕ)
+    → ((k : ℕ) → k < i + m → at r k ≡ share R ds (device (at ids k) (at caps k))) → rows r ids i m ≡ sharesOf R ds (deviceRows ids caps i m)
+rows-sharesOf R ds r ids caps i zero h = refl
+rows-sharesOf R ds r ids caps i (suc m) h = rw (h i (omega arith), rows-sharesOf R ds r ids caps (suc i) m (λ k l. h k (omega arith)))
+
+pub rows-shares : (R : ℕ) (r ids caps : List ℕ) (n : ℕ)
+    → ((k : ℕ) → k < n → at r k ≡ share R (deviceRows ids caps 0 n) (device (at ids k) (at caps k)))
+    → rows r ids 0 n ≡ largestRemainder R (deviceRows ids caps 0 n)
+unfolding largestRemainder
+rows-shares R r ids caps n h = rows-sharesOf R (deviceRows ids caps 0 n) r ids caps 0 n (λ k l. h k (omega arith))

@@ -1,0 +1,89 @@
+-- `slicing_core::devices::delete_row` meets its contract. The loop's invariant: the first `i` rows are those without that at `p`.
+use mathlib.Core.Path.{_≡_, sym}
+use mathlib.Core.Logic.{⊎-elim}
+use Prim.Native.Nat.{_-_, _≤_, _<_}
+use native.Mathlib.Omega.{arith}
+use borrow.Author.Needs.{needs}
+use Rattle.slicing_core.proofs.Fills.{Filling, filling-none, filling-put}
+use Rattle.slicing_core.proofs.Shifts.{deleted, deleted-before, deleted-after, filled-deleted}
+use Rattle.slicing_core.proofs.devices.delete_row.Statement.{statement}
+use Rattle.slicing_core.proofs.devices.delete_row.Tie as tie
+
+abbrev Inv-loop : tie.InvT-loop
+Inv-loop rows p into₀ i₀ into i = (i ≤ 255) × Filling (deleted rows p) into i
+
+abbrev μ-loop : tie.MeasureT-loop
+μ-loop rows p into₀ i₀ into i = 255 - i
+
+loop-holds : tie.Need-loop-holds Inv-loop μ-loop
+loop-holds c = (omega arith, filling-none _)
+
+mul-into : tie.Need-mul-into Inv-loop μ-loop
+mul-into c = search needs
+
+element-copy-out-into : tie.Need-element-copy-out-into Inv-loop μ-loop
+element-copy-out-into c = search needs
+
+mul-into-2 : tie.Need-mul-into-2 Inv-loop μ-loop
+mul-into-2 c = search needs
+
+array-write-into : tie.Need-array-write-into Inv-loop μ-loop
+array-write-into c = search needs
+
+add-into : tie.Need-add-into Inv-loop μ-loop
+add-into c = search needs
+
+mul-into-3 : tie.Need-mul-into-3 Inv-loop μ-loop
+mul-into-3 c = search needs
+
+element-copy-out-into-2 : tie.Need-element-copy-out-into-2 Inv-loop μ-loop
+element-copy-out-into-2 c = search needs
+
+mul-into-4 : tie.Need-mul-into-4 Inv-loop μ-loop
+mul-into-4 c = search needs
+
+array-write-into-2 : tie.Need-array-write-into-2 Inv-loop μ-loop
+array-write-into-2 c = search needs
+
+add-i : tie.Need-add-i Inv-loop μ-loop
+add-i c = search needs
+
+loop-less : tie.Need-loop-less Inv-loop μ-loop
+loop-less c = search needs
+
+loop-again : tie.Need-loop-again Inv-loop μ-loop
+loop-again c =
+    let rows = c .before .before .before .args .rows .now in
+    let turn = c .before .before .loop in
+    let l : turn .i < 256 = omega arith in (
+      omega arith,
+      ⊎-elim (λ w. filling-put (turn .inv .1) l (w .2) (sym (deleted-before rows (w .0 .taken))))
+          (λ w. filling-put (turn .inv .1) l (w .2) (sym (deleted-after rows (w .0 .left))))
+          (c .if1 .came),
+    )
+
+returns : tie.Need-returns Inv-loop μ-loop
+returns c =
+    let e : c .before .loop .i ≡ 255 = omega arith in
+    filled-deleted (c .before .before .pre) (rw e at (c .before .loop .inv .1))
+
+pub delete-row-spec : {M : Type 1} → statement M
+delete-row-spec =
+    tie.close
+    (tie.spec
+    Inv-loop
+    μ-loop
+    loop-holds
+    mul-into
+    element-copy-out-into
+    mul-into-2
+    array-write-into
+    add-into
+    mul-into-3
+    element-copy-out-into-2
+    mul-into-4
+    array-write-into-2
+    add-i
+    loop-less
+    loop-again
+    returns)

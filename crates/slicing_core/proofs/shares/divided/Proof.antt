@@ -1,0 +1,125 @@
+-- `slicing_core::shares::divided` meets its contract. The loop's invariant: floors and remainders of the rows passed are stored, and
+-- what is given and the floors of the rows left are all floors.
+use mathlib.Core.Path.{_≡_, refl, ap}
+use Prim.Native.Nat.{_+_, _*_, _-_, _/_, _%_, _≤_}
+use native.Mathlib.Nat.{zero-add, sub-zero}
+use native.Mathlib.Omega.{arith}
+use borrow.Author.Needs.{needs}
+use Rattle.slicing.specs.LargestRemainder.{floors as floorsOf}
+use Rattle.slicing_core.specs.Rows.{at, deviceRows}
+use Rattle.slicing_core.proofs.Fills.{Filling, filling-none, filling-put}
+use Rattle.slicing_core.proofs.Rows.{deviceRows-step, deviceRows-end}
+use Rattle.slicing_core.proofs.ShareRows.{product-most, floors-most, remainders-rows}
+use Rattle.slicing_core.proofs.shares.divided.Statement.{statement}
+use Rattle.slicing_core.proofs.shares.divided.Tie as tie
+
+abbrev Inv-loop : tie.InvT-loop
+Inv-loop range capacities ids n c floors₀ remainders₀ given₀ i₀ floors remainders given i =
+    (i ≤ n) × Filling (λ k. range * at capacities k / c) floors i × Filling (λ k. range * at capacities k % c) remainders i
+    × (given + floorsOf range c (deviceRows ids capacities i (n - i)) ≡ floorsOf range c (deviceRows ids capacities 0 n))
+
+abbrev μ-loop : tie.MeasureT-loop
+μ-loop range capacities ids n c floors₀ remainders₀ given₀ i₀ floors remainders given i = n - i
+
+-- the floors of the rows left, one row after the other, and of all rows
+step : (c : tie.In-loop Inv-loop μ-loop) → let args = c .before .before .args in let i = c .before .loop .i in
+    floorsOf (args .range) (args .c) (deviceRows (args .ids .now) (args .capacities .now) i (args .n - i))
+    ≡ args .range * at (args .capacities .now) i / args .c
+    + floorsOf (args .range) (args .c) (deviceRows (args .ids .now) (args .capacities .now) (i + 1) (args .n - (i + 1)))
+step c =
+    let args = c .before .before .args in
+    ap (floorsOf (args .range) (args .c))
+    (deviceRows-step (args .ids .now) (args .capacities .now) (c .before .loop .i) (args .n) (c .loop-test .taken))
+
+most : (c : tie.Start Inv-loop μ-loop) → let args = c .args in
+    floorsOf (args .range) (args .c) (deviceRows (args .ids .now) (args .capacities .now) 0 (args .n)) ≤ args .range
+most c = floors-most _ _ (c .args .ids .now) (c .args .capacities .now) (c .args .n) (c .pre .1 .0) (c .pre .1 .1)
+
+loop-holds : tie.Need-loop-holds Inv-loop μ-loop
+loop-holds c = (omega arith, filling-none _, filling-none _, simp (zero-add, sub-zero))
+
+mul-product : tie.Need-mul-product Inv-loop μ-loop
+mul-product c = search needs
+
+element-copy-out-product : tie.Need-element-copy-out-product Inv-loop μ-loop
+element-copy-out-product c = search needs
+
+mul-product-2 : tie.Need-mul-product-2 Inv-loop μ-loop
+mul-product-2 c =
+    let pre = c .before .before .before .pre .0 in
+    omega (arith, product-most (pre .1) (pre .2 (c .before .before .loop .i) (c .before .loop-test .taken)))
+
+div-floors : tie.Need-div-floors Inv-loop μ-loop
+div-floors c = search needs
+
+mul-floors : tie.Need-mul-floors Inv-loop μ-loop
+mul-floors c = search needs
+
+array-write-floors : tie.Need-array-write-floors Inv-loop μ-loop
+array-write-floors c = search needs
+
+rem-remainders : tie.Need-rem-remainders Inv-loop μ-loop
+rem-remainders c = search needs
+
+mul-remainders : tie.Need-mul-remainders Inv-loop μ-loop
+mul-remainders c = search needs
+
+array-write-remainders : tie.Need-array-write-remainders Inv-loop μ-loop
+array-write-remainders c = search needs
+
+div-given : tie.Need-div-given Inv-loop μ-loop
+div-given c = search needs
+
+add-given : tie.Need-add-given Inv-loop μ-loop
+add-given c = omega (arith, step (c .before), most (c .before .before .before))
+
+add-i : tie.Need-add-i Inv-loop μ-loop
+add-i c = search needs
+
+loop-less : tie.Need-loop-less Inv-loop μ-loop
+loop-less c = search needs
+
+loop-again : tie.Need-loop-again Inv-loop μ-loop
+loop-again c =
+    let turn = c .before .before .loop in (
+      omega arith,
+      filling-put (turn .inv .1) (omega arith) refl refl,
+      filling-put (turn .inv .2) (omega arith) refl refl,
+      omega (arith, step (c .before)),
+    )
+
+sub-t22 : tie.Need-sub-t22 Inv-loop μ-loop
+sub-t22 c = omega (arith, most (c .before .before))
+
+returns : tie.Need-returns Inv-loop μ-loop
+returns c =
+    let args = c .before .before .args in
+    let turn = c .before .loop in
+    let e : turn .i ≡ args .n = omega arith in
+    let none = deviceRows-end (args .ids .now) (args .capacities .now) (turn .i) (args .n) (c .loop-test .left) in
+    remainders-rows (c .before .before .pre .1 .0) (rw e at (turn .inv .1)) (rw e at (turn .inv .2))
+    (omega (arith, ap (floorsOf (args .range) (args .c)) none))
+
+pub divided-spec : {M : Type 1} → statement M
+divided-spec =
+    tie.close
+    (tie.spec
+    Inv-loop
+    μ-loop
+    loop-holds
+    mul-product
+    element-copy-out-product
+    mul-product-2
+    div-floors
+    mul-floors
+    array-write-floors
+    rem-remainders
+    mul-remainders
+    array-write-remainders
+    div-given
+    add-given
+    add-i
+    loop-less
+    loop-again
+    sub-t22
+    returns)

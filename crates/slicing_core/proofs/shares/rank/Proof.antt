@@ -1,0 +1,101 @@
+-- `slicing_core::shares::rank` meets its contract. The loop's invariant: those counted and the rank among the rows left are the rank.
+use mathlib.Core.Path.{_≡_, ap}
+use mathlib.Core.Logic.{⊎-elim}
+use Prim.Native.Nat.{_+_, _-_, _≤_}
+use native.Mathlib.Nat.{zero-add, sub-zero}
+use native.Mathlib.Omega.{arith}
+use borrow.Author.Needs.{needs}
+use Rattle.slicing.specs.Runs.{one}
+use Rattle.slicing.proofs.LargestRemainder.{lex-more, lex-same, lex-not}
+use Rattle.slicing_core.specs.Rows.{at}
+use Rattle.slicing_core.specs.Stages.{rank as rankOf}
+use Rattle.slicing_core.proofs.ShareRows.{rank-step, rank-end}
+use Rattle.slicing_core.proofs.shares.rank.Statement.{statement}
+use Rattle.slicing_core.proofs.shares.rank.Tie as tie
+
+abbrev Inv-loop : tie.InvT-loop
+Inv-loop remainders ids n p own id before₀ i₀ before i =
+    (i ≤ n) × (before ≤ i) × (before + rankOf remainders ids p i (n - i) ≡ rankOf remainders ids p 0 n)
+
+abbrev μ-loop : tie.MeasureT-loop
+μ-loop remainders ids n p own id before₀ i₀ before i = n - i
+
+mul-own : tie.Need-mul-own Inv-loop μ-loop
+mul-own c = search needs
+
+element-copy-out-own : tie.Need-element-copy-out-own Inv-loop μ-loop
+element-copy-out-own c = search needs
+
+mul-id : tie.Need-mul-id Inv-loop μ-loop
+mul-id c = search needs
+
+element-copy-out-id : tie.Need-element-copy-out-id Inv-loop μ-loop
+element-copy-out-id c = search needs
+
+loop-holds : tie.Need-loop-holds Inv-loop μ-loop
+loop-holds c = (omega arith, omega arith, simp (zero-add, sub-zero))
+
+mul-other : tie.Need-mul-other Inv-loop μ-loop
+mul-other c = search needs
+
+element-copy-out-other : tie.Need-element-copy-out-other Inv-loop μ-loop
+element-copy-out-other c = search needs
+
+add-before : tie.Need-add-before Inv-loop μ-loop
+add-before c = search needs
+
+mul-if3 : tie.Need-mul-if3 Inv-loop μ-loop
+mul-if3 c = search needs
+
+element-copy-out-if3 : tie.Need-element-copy-out-if3 Inv-loop μ-loop
+element-copy-out-if3 c = search needs
+
+add-before-2 : tie.Need-add-before-2 Inv-loop μ-loop
+add-before-2 c = search needs
+
+add-i : tie.Need-add-i Inv-loop μ-loop
+add-i c = search needs
+
+loop-less : tie.Need-loop-less Inv-loop μ-loop
+loop-less c = search needs
+
+loop-again : tie.Need-loop-again Inv-loop μ-loop
+loop-again c =
+    let args = c .before .before .before .before .before .before .args in
+    let i = c .before .before .before .loop .i in
+    let rems = args .remainders .now in
+    let ids = args .ids .now in
+    let p = args .p in
+    let step = rank-step rems ids p i (args .n) (c .before .before .loop-test .taken) in
+    ⊎-elim (λ w. omega (arith, step, ap one (lex-more (at rems i) (at ids i) (at rems p) (at ids p) (w .0 .taken))))
+    (⊎-elim (λ w. omega (arith, step, ap one (lex-same (at rems i) (at ids i) (at rems p) (at ids p) (w .1 .taken) (w .3 .taken))))
+    (⊎-elim (λ w. omega (arith, step, ap one (lex-not (at rems i) (at ids i) (at rems p) (at ids p) (w .0 .left) (λ e. w .3 .left))))
+    (λ w. omega (arith, step, ap one (lex-not (at rems i) (at ids i) (at rems p) (at ids p) (w .0 .left) (λ e. absurd (w .1 .left e)))))))
+    (c .if1 .came)
+
+returns : tie.Need-returns Inv-loop μ-loop
+returns c =
+    let args = c .before .before .before .before .args in
+    omega (arith, rank-end (args .remainders .now) (args .ids .now) (args .p) (c .before .loop .i) (args .n) (c .loop-test .left))
+
+pub rank-spec : {M : Type 1} → statement M
+rank-spec =
+    tie.close
+    (tie.spec
+    Inv-loop
+    μ-loop
+    mul-own
+    element-copy-out-own
+    mul-id
+    element-copy-out-id
+    loop-holds
+    mul-other
+    element-copy-out-other
+    add-before
+    mul-if3
+    element-copy-out-if3
+    add-before-2
+    add-i
+    loop-less
+    loop-again
+    returns)

@@ -1,0 +1,58 @@
+-- `slicing_core::shares::sum` meets its contract. The loop's invariant: the sum so far and the capacities of the rows left are all
+-- capacities.
+use mathlib.Core.Path.{_≡_, ap}
+use Prim.Native.Nat.{_+_, _*_, _-_, _≤_}
+use native.Mathlib.Nat.{zero-add, sub-zero}
+use native.Mathlib.Omega.{arith}
+use borrow.Author.Needs.{needs}
+use Rattle.slicing.specs.Devices.{capacities as capacitiesOf}
+use Rattle.slicing_core.specs.Rows.{deviceRows}
+use Rattle.slicing_core.proofs.Rows.{deviceRows-step, deviceRows-end}
+use Rattle.slicing_core.proofs.shares.sum.Statement.{statement}
+use Rattle.slicing_core.proofs.shares.sum.Tie as tie
+
+abbrev Inv-loop : tie.InvT-loop
+Inv-loop capacities ids n c₀ i₀ c i =
+    (i ≤ n) × (c ≤ 16000000 * i) × (c + capacitiesOf (deviceRows ids capacities i (n - i)) ≡ capacitiesOf (deviceRows ids capacities 0 n))
+
+abbrev μ-loop : tie.MeasureT-loop
+μ-loop capacities ids n c₀ i₀ c i = n - i
+
+loop-holds : tie.Need-loop-holds Inv-loop μ-loop
+loop-holds c = (omega arith, omega arith, simp (zero-add, sub-zero))
+
+mul-c : tie.Need-mul-c Inv-loop μ-loop
+mul-c c = search needs
+
+element-copy-out-c : tie.Need-element-copy-out-c Inv-loop μ-loop
+element-copy-out-c c = search needs
+
+add-c : tie.Need-add-c Inv-loop μ-loop
+add-c c = omega (arith, c .before .before .before .pre .1 (c .before .before .loop .i) (c .before .loop-test .taken))
+
+add-i : tie.Need-add-i Inv-loop μ-loop
+add-i c = search needs
+
+loop-less : tie.Need-loop-less Inv-loop μ-loop
+loop-less c = search needs
+
+loop-again : tie.Need-loop-again Inv-loop μ-loop
+loop-again c =
+    let args = c .before .before .before .args in
+    let i = c .before .before .loop .i in
+    let l = c .before .loop-test .taken in
+    omega (
+      arith,
+      c .before .before .before .pre .1 i l,
+      ap capacitiesOf (deviceRows-step (args .ids .now) (args .capacities .now) i (args .n) l),
+    )
+
+returns : tie.Need-returns Inv-loop μ-loop
+returns c =
+    let args = c .before .before .args in
+    omega (arith, ap capacitiesOf (deviceRows-end (args .ids .now) (args .capacities .now) (c .before .loop .i) (args .n) (c .loop-test .left)))
+
+pub sum-spec : {M : Type 1} → statement M
+sum-spec =
+    tie.close
+    (tie.spec Inv-loop μ-loop loop-holds mul-c element-copy-out-c add-c add-i loop-less loop-again returns)
