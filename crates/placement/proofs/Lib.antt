@@ -1,3 +1,17 @@
+pub mod Copies
+pub mod Deciding
+pub mod PaddedRows
+pub mod LengthRows
 pub mod PoolLaws
 pub mod ValidParts
+pub mod WidePools
+pub mod HeldRows
+pub mod FreshPools
+pub mod OnlyDevices
 pub mod Turning
+pub mod Packing
+pub mod Planning
+pub mod WrittenMoves
+pub mod NextDevices
+pub mod ShareAnswers
+pub mod Calls

@@ -17,8 +17,10 @@ use Rattle.slicing.specs.Devices.{Device, device, ids, Rising}
 use Rattle.slicing.specs.Runs.{Run, _of_, total, Differs, Coalesced}
 use Rattle.slicing.specs.Validity.{Valid}
 use Rattle.slicing_core.specs.Rows.{at, rows, deviceRows, tableRows}
+use Rattle.slicing_core.proofs.Rows.{length-deviceRows}
 use Rattle.placement.specs.declared.Pool.{Pool}
 use Rattle.placement.specs.Pools.{padded, capacitiesOf, startsOf, ownersOf, stateOf, poolOf, ValidPool, Zeros}
+use Rattle.placement.proofs.PaddedRows.{length-startsOf, length-ownersOf}
 
 -- ---- lists
 
@@ -67,11 +69,11 @@ part xs i n = take n (drop i xs)
 part-suc : (xs : List ℕ) (i n : ℕ) → i < length xs → part xs i (suc n) ≡ at xs i ∷ part xs (suc i) n
 part-suc xs i n h = rw (drop-cons xs i 0 h)
 
-ids-part : (d c : List ℕ) (i n : ℕ) → i + n ≤ length d → ids (deviceRows d c i n) ≡ part d i n
+pub ids-part : (d c : List ℕ) (i n : ℕ) → i + n ≤ length d → ids (deviceRows d c i n) ≡ part d i n
 ids-part d c i zero h = refl
 ids-part d c i (suc n) h = rw (part-suc d i n (omega arith), ids-part d c (suc i) n (omega arith))
 
-capacities-part : (d c : List ℕ) (i n : ℕ) → i + n ≤ length c → capacitiesOf (deviceRows d c i n) ≡ part c i n
+pub capacities-part : (d c : List ℕ) (i n : ℕ) → i + n ≤ length c → capacitiesOf (deviceRows d c i n) ≡ part c i n
 capacities-part d c i zero h = refl
 capacities-part d c i (suc n) h = rw (part-suc c i n (omega arith), capacities-part d c (suc i) n (omega arith))
 
@@ -84,10 +86,6 @@ pub length-tableRows : (p o : List ℕ) (R i n : ℕ) → length (tableRows p o 
 length-tableRows p o R i zero = refl
 length-tableRows p o R i (suc zero) = refl
 length-tableRows p o R i (suc (suc n)) = ap suc (length-tableRows p o R (suc i) (suc n))
-
-pub length-deviceRows : (d c : List ℕ) (i n : ℕ) → length (deviceRows d c i n) ≡ n
-length-deviceRows d c i zero = refl
-length-deviceRows d c i (suc n) = ap suc (length-deviceRows d c (suc i) n)
 
 -- intervals of at least one point: the last ends at R, and each begins where the last ends
 total-tableRows : (p o : List ℕ) (R i n : ℕ) → Coalesced eqb (tableRows p o R i (suc n)) → at p i + total (tableRows p o R i (suc n)) ≡ R
@@ -171,14 +169,6 @@ length-ids (e ∷ ds) = ap suc (length-ids ds)
 pub length-capacitiesOf : (ds : List Device) → length (capacitiesOf ds) ≡ length ds
 length-capacitiesOf [] = refl
 length-capacitiesOf (e ∷ ds) = ap suc (length-capacitiesOf ds)
-
-pub length-startsOf : (x : ℕ) (rs : List (Run ℕ)) → length (startsOf x rs) ≡ length rs
-length-startsOf x [] = refl
-length-startsOf x ((n of d) ∷ rs) = ap suc (length-startsOf (x + n) rs)
-
-pub length-ownersOf : (rs : List (Run ℕ)) → length (ownersOf rs) ≡ length rs
-length-ownersOf [] = refl
-length-ownersOf ((n of d) ∷ rs) = ap suc (length-ownersOf rs)
 
 -- the places of a padded list
 from-padded : (N : ℕ) (ys : List ℕ) (n : ℕ) → length ys ≡ n → (j : ℕ) → j < n → at (padded N ys) (0 + j) ≡ at ys j

@@ -3,7 +3,7 @@
 --   Under k rs       the labels of rs are below k
 -- at: owned-above, by-owner-all; release-left, needs-rows, turns-rows, takens-rows
 -- Under: under-relabel, under-coalesce, below-under; positive-coalesced
--- rows: length-rows, length-moveRows
+-- turns_of: intervals-most, table-rows, owners-below, total-range, takens-of, turns-of
 use mathlib.Core.Path.{_≡_, refl, sym, ap, ap₂, _∙_, fun-ext, subst}
 use mathlib.Core.Bool.{Bool, true, false, cond}
 use mathlib.Core.List.{List, [], _∷_}
@@ -12,13 +12,20 @@ use native.Mathlib.Omega.{arith}
 use lib.Dec.{eqb, ltb}
 use lib.ListN.{length, List·getD-eq-default}
 use borrow.Author.Tests.{eqb-true, eqb-false, ne-eqb, ltb-true, ltb-false}
+use Rattle.slicing.specs.Devices.{Rising}
+use Rattle.slicing.specs.LargestRemainder.{largestRemainder}
 use Rattle.slicing.specs.Runs.{Run, _of_, one, total, owned, relabel, push, coalesce, Coalesced}
+use Rattle.slicing.specs.ShareRule.{shares}
 use Rattle.slicing.specs.SixSteps.{release, needs, end, walk, fill, turns}
+use Rattle.slicing.proofs.Changes.{balanced}
 use Rattle.slicing.proofs.SixSteps.{Balanced, total-needs}
 use Rattle.slicing.proofs.Walk.{takens}
-use Rattle.slicing_core.specs.Rows.{at, rows, moveRows}
+use Rattle.slicing_core.specs.Rows.{at, rows, deviceRows, tableRows}
 use Rattle.slicing_core.specs.Stages.{Below, Quotas}
-use Rattle.placement.specs.Pools.{Positive}
+use Rattle.slicing_core.proofs.Rows.{length-deviceRows}
+use Rattle.placement.specs.declared.Pool.{Pool}
+use Rattle.placement.specs.Pools.{stateOf, ValidPool, Positive, Widened}
+use Rattle.placement.proofs.ValidParts.{valid-limited}
 
 -- ---- what each owner has, by id
 
@@ -113,12 +120,54 @@ positive-from s l i (suc n) u j a b = go (eqb i j) refl (λ m. positive-from s l
 pub positive-coalesced : (s l : List ℕ) (n : ℕ) → Coalesced eqb (rows s l 0 n) → Positive s n
 positive-coalesced s l n u j h = positive-from s l 0 n u j (omega arith) (omega arith)
 
--- ---- how many
+-- ---- the stages of `settle::turns_of`
 
-pub length-rows : (s l : List ℕ) (i n : ℕ) → length (rows s l i n) ≡ n
-length-rows s l i zero = refl
-length-rows s l i (suc n) = ap suc (length-rows s l (suc i) n)
+module _ (pool : Pool) (v : ValidPool pool) (h : 1 ≤ pool .devices) where
+  some : 1 ≤ length (stateOf pool .devices)
+  unfolding stateOf
+  some = omega (arith, length-deviceRows (pool .ids) (pool .capacities) 0 (pool .devices))
 
-pub length-moveRows : (p s l : List ℕ) (i n : ℕ) → length (moveRows p s l i n) ≡ n
-length-moveRows p s l i zero = refl
-length-moveRows p s l i (suc n) = ap suc (length-moveRows p s l (suc i) n)
+  pub intervals-most : pool .intervals ≤ 4096
+  intervals-most = omega (arith, valid-limited pool v .fits, valid-limited pool v .roomMost)
+
+  module _ (starts owners lengths : List ℕ) (ws : Widened (pool .starts) 4294967296 4096 starts) (wo : Widened (pool .owners) 65536 4096 owners)
+      (e : rows lengths owners 0 (pool .intervals) ≡ tableRows starts owners (pool .range) 0 (pool .intervals)) where
+    pub table-rows : rows lengths owners 0 (pool .intervals) ≡ stateOf pool .table
+    unfolding stateOf
+    table-rows = e ∙ ap₂ (λ p o. tableRows p o (pool .range) 0 (pool .intervals)) (ws .same) (wo .same)
+
+    pub owners-below : Below 65536 owners (pool .intervals)
+    owners-below i l = rw (wo .same) (wo .below i (omega (arith, intervals-most)))
+
+    pub total-range : total (rows lengths owners 0 (pool .intervals)) ≡ pool .range
+    unfolding stateOf
+    total-range = ap total table-rows ∙ v .valid .covers some
+
+    module _ (ids capacities : List ℕ) (n : ℕ) (r : Rising 0 (deviceRows ids capacities 0 n)) (m : 1 ≤ n) (points due : List ℕ)
+        (l : length points ≡ 65536) (p : (d : ℕ) → d < 65536 → at points d ≡ owned d (rows lengths owners 0 (pool .intervals)))
+        (s : rows due ids 0 n ≡ largestRemainder (pool .range) (deviceRows ids capacities 0 n)) (left needed : List ℕ)
+        (q : Quotas points ids due n left needed) where
+      abbrev has : List (Run ℕ)
+      has = shares (pool .range) (stateOf pool .devices)
+
+      abbrev dues : List (Run ℕ)
+      dues = shares (pool .range) (deviceRows ids capacities 0 n)
+
+      fair : Balanced (stateOf pool .table) has dues
+      unfolding stateOf
+      fair = balanced (stateOf pool) (v .valid) some (deviceRows ids capacities 0 n) r (omega (arith, length-deviceRows ids capacities 0 n))
+
+      share-rows : rows due ids 0 n ≡ dues
+      unfolding shares
+      share-rows = s
+
+      all-points : (d : ℕ) → at points d ≡ owned d (stateOf pool .table)
+      all-points d = by-owner-all lengths owners points (pool .intervals) owners-below l p d ∙ ap (owned d) table-rows
+
+      pub takens-of : total (takens (walk (at left) end false (rows lengths owners 0 (pool .intervals)))) ≤ total (rows needed ids 0 n)
+      takens-of =
+          rw table-rows (takens-rows (stateOf pool .table) has dues fair points ids due left needed n all-points share-rows q)
+
+      pub turns-of : fill (walk (at left) end false (rows lengths owners 0 (pool .intervals))) (rows needed ids 0 n) ≡ turns (stateOf pool .table) has dues
+      turns-of =
+          rw table-rows (turns-rows (stateOf pool .table) has dues fair points ids due left needed n all-points share-rows q)

@@ -19,9 +19,11 @@ use Rattle.slicing.proofs.Least.{rival-count}
 use Rattle.slicing.proofs.Runs.{owners, length-expand, count-expand}
 use Rattle.slicing.proofs.ShareRule.{total-shares, owners-shares, shares-distinct}
 use Rattle.slicing_core.specs.Rows.{at, deviceRows, tableRows}
+use Rattle.slicing_core.proofs.Rows.{length-deviceRows}
 use Rattle.placement.specs.declared.Pool.{Pool}
 use Rattle.placement.specs.Pools.{stateOf, poolOf, padded, startsOf, ownersOf, capacitiesOf, ValidPool, Zeros, Limited, Cleared, Covered}
-use Rattle.placement.proofs.PoolLaws.{length-deviceRows, length-tableRows, zeros-padded, length-ids, length-capacitiesOf, length-startsOf, length-ownersOf, poolOf-parts}
+use Rattle.placement.proofs.PaddedRows.{length-startsOf, length-ownersOf}
+use Rattle.placement.proofs.PoolLaws.{length-tableRows, zeros-padded, length-ids, length-capacitiesOf, poolOf-parts}
 
 module _ (p : Pool) (v : ValidPool p) where
   some-devices : 1 ≤ p .devices → 1 ≤ length (stateOf p .devices)

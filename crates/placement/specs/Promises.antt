@@ -11,7 +11,7 @@
 use mathlib.Core.Path.{_≡_}
 use mathlib.Core.Bool.{cond, _||_, not}
 use mathlib.Core.List.{List, [], _∷_, _++_}
-use Prim.Native.Nat.{ℕ, _*_}
+use Prim.Native.Nat.{ℕ, _*_, _≤_}
 use lib.ListN.{length, drop}
 use Rattle.slicing.specs.Changes.{State, fresh, Change, Outcome, refused, settle, change}
 use Rattle.slicing.specs.Demand3.{written}
@@ -20,6 +20,7 @@ use Rattle.slicing.specs.Limits.{maxRange, maxLimit, maxId, outside}
 use Rattle.slicing.specs.ShareRule.{shareOf}
 use Rattle.slicing.specs.SixSteps.{Move, move}
 use Rattle.slicing_core.specs.Rows.{moveRows}
+use Rattle.slicing_core.specs.Stages.{scratch}
 use Rattle.placement.specs.Pools.{stateOf, poolOf, ValidPool}
 use Rattle.placement.specs.declared.ChangeAnswer.{ChangeAnswer}
 use Rattle.placement.specs.declared.Pool.{Pool}
@@ -75,6 +76,7 @@ pub record Planned (p : Pool) (es : List Device) (places : ℕ) (r : Plan) : Typ
   pub number : (lent : List Move) → length lent ≡ places → r .refusal ≡ settle (stateOf p) lent es .number
   pub moved : (lent : List Move) → length lent ≡ places → r .moves .points ≡ settle (stateOf p) lent es .moved
   pub count : (lent : List Move) → length lent ≡ places → r .moves .count ≡ settle (stateOf p) lent es .count
+  pub room : r .moves .count ≤ scratch
   pub pool : (lent : List Move) → length lent ≡ places → r .pool ≡ poolOf (settle (stateOf p) lent es .state)
   pub moves : (lent : List Move) → length lent ≡ places
       → moveRows (r .moves .starts) (r .moves .sizes) (r .moves .labels) 0 (r .moves .count) ≡ written (settle (stateOf p) lent es)

@@ -192,7 +192,7 @@ or-false : (a b : Bool) → a || b ≡ false → (a ≡ false) × (b ≡ false)
 or-false true b e = absurd (true≢false e)
 or-false false b e = (refl, e)
 
-outside-false : (k x : ℕ) → outside k x ≡ false → (1 ≤ x) × (x ≤ k)
+pub outside-false : (k x : ℕ) → outside k x ≡ false → (1 ≤ x) × (x ≤ k)
 outside-false k x e =
     let p : (ltb x 1 ≡ false) × (ltb k x ≡ false) = or-false (ltb x 1) (ltb k x) e in
     (ltb-false x 1 (p .0), ltb-false k x (p .1))

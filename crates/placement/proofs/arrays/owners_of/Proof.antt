@@ -1,0 +1,67 @@
+-- `placement::arrays::owners_of` meets its contract. The loop's invariant: the owners of the first `i` runs, with zeros behind.
+use mathlib.Core.Path.{_≡_, refl}
+use Prim.Native.Nat.{_-_, _≤_}
+use native.Mathlib.Omega.{arith}
+use Rattle.slicing_core.specs.Rows.{rows}
+use Rattle.placement.specs.Pools.{padded, ownersOf}
+use Rattle.placement.proofs.PaddedRows.{ownersOf-store}
+use Rattle.placement.proofs.arrays.owners_of.Statement.{statement}
+use Rattle.placement.proofs.arrays.owners_of.Tie as tie
+
+abbrev Inv-loop : tie.InvT-loop
+Inv-loop sizes labels n into₀ i₀ into i = (i ≤ n) × (into ≡ padded 4096 (ownersOf (rows sizes labels 0 i)))
+
+abbrev μ-loop : tie.MeasureT-loop
+μ-loop sizes labels n into₀ i₀ into i = n - i
+
+loop-holds : tie.Need-loop-holds Inv-loop μ-loop
+loop-holds c = (omega arith, refl)
+
+mul-into : tie.Need-mul-into Inv-loop μ-loop
+mul-into c = omega arith
+
+element-copy-out-into : tie.Need-element-copy-out-into Inv-loop μ-loop
+element-copy-out-into c = omega arith
+
+cast-into : tie.Need-cast-into Inv-loop μ-loop
+cast-into c = record { fits = c .before .before .before .pre .1 (c .before .before .loop .i) (c .before .loop-test .taken) }
+
+mul-into-2 : tie.Need-mul-into-2 Inv-loop μ-loop
+mul-into-2 c = omega arith
+
+array-write-into : tie.Need-array-write-into Inv-loop μ-loop
+array-write-into c = omega arith
+
+add-i : tie.Need-add-i Inv-loop μ-loop
+add-i c = omega arith
+
+loop-less : tie.Need-loop-less Inv-loop μ-loop
+loop-less c = omega arith
+
+loop-again : tie.Need-loop-again Inv-loop μ-loop
+loop-again c =
+    let args = c .before .before .before .args in
+    let turn = c .before .before .loop in
+    (omega arith, rw (turn .inv .1) (ownersOf-store 4096 (args .sizes .now) (args .labels .now) (turn .i) (omega arith)))
+
+returns : tie.Need-returns Inv-loop μ-loop
+returns c =
+    let e : c .before .loop .i ≡ c .before .before .args .n = omega arith in
+    rw e at (c .before .loop .inv .1)
+
+pub owners-of-spec : {M : Type 1} → statement M
+owners-of-spec =
+    tie.close
+    (tie.spec
+    Inv-loop
+    μ-loop
+    loop-holds
+    mul-into
+    element-copy-out-into
+    cast-into
+    mul-into-2
+    array-write-into
+    add-i
+    loop-less
+    loop-again
+    returns)

@@ -1,0 +1,56 @@
+-- `placement::arrays::zeros_from` meets its contract. The loop's invariant: all from place `n` up to `i` are 0.
+use mathlib.Core.Path.{_≡_}
+use Prim.Native.Nat.{ℕ, _-_, _≤_, _<_}
+use native.Mathlib.Omega.{arith}
+use lib.ListN.{length}
+use borrow.Author.Count.{below-more}
+use Rattle.slicing_core.specs.Rows.{at}
+use Rattle.placement.proofs.arrays.zeros_from.Statement.{statement}
+use Rattle.placement.proofs.arrays.zeros_from.Tie as tie
+
+abbrev Inv-loop : tie.InvT-loop
+Inv-loop xs n i₀ i = (n ≤ i) × ((k : ℕ) → k < i → n ≤ k → at xs k ≡ 0)
+
+abbrev μ-loop : tie.MeasureT-loop
+μ-loop xs n i₀ i = length xs - i
+
+loop-holds : tie.Need-loop-holds Inv-loop μ-loop
+loop-holds c = (omega arith, λ k h m. absurd (omega arith))
+
+mul-if1 : tie.Need-mul-if1 Inv-loop μ-loop
+mul-if1 c = omega arith
+
+shared-slice-read-if1 : tie.Need-shared-slice-read-if1 Inv-loop μ-loop
+shared-slice-read-if1 c = omega arith
+
+returns : tie.Need-returns Inv-loop μ-loop
+returns c = λ h. c .if1 .taken (h (c .before .before .before .loop .i) (omega arith) (c .before .before .loop-test .taken))
+
+add-i : tie.Need-add-i Inv-loop μ-loop
+add-i c = omega arith
+
+loop-less : tie.Need-loop-less Inv-loop μ-loop
+loop-less c = omega arith
+
+loop-again : tie.Need-loop-again Inv-loop μ-loop
+loop-again c =
+    let turn = c .before .before .before .loop in
+    (omega arith, below-more _ (turn .i) (turn .inv .1) (λ m. c .if1 .left))
+
+returns-2 : tie.Need-returns-2 Inv-loop μ-loop
+returns-2 c = λ k m h. c .before .loop .inv .1 k (omega arith) m
+
+pub zeros-from-spec : {M : Type 1} → statement M
+zeros-from-spec =
+    tie.close
+    (tie.spec
+    Inv-loop
+    μ-loop
+    loop-holds
+    mul-if1
+    shared-slice-read-if1
+    returns
+    add-i
+    loop-less
+    loop-again
+    returns-2)

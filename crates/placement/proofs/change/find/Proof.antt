@@ -1,0 +1,43 @@
+-- `placement::change::find` meets its contract: an id is present where its place among rising ids has it, and nowhere else.
+use mathlib.Core.Path.{sym}
+use mathlib.Core.Bool.{false≢true}
+use native.Mathlib.Omega.{arith}
+use borrow.Author.Needs.{needs}
+use Rattle.slicing_core.proofs.DeviceRows.{position-present, position-absent}
+use Rattle.placement.proofs.change.find.Statement.{statement}
+use Rattle.placement.proofs.change.find.Tie as tie
+
+position-requires : tie.Need-position-requires
+position-requires c κs = search needs
+
+mul-if2 : tie.Need-mul-if2
+mul-if2 c = search needs
+
+element-copy-out-if2 : tie.Need-element-copy-out-if2
+element-copy-out-if2 c = search needs
+
+returns : tie.Need-returns
+returns c =
+    let l = c .before .before .if1 .taken in
+    (c .before .before .before .position .ensures, (λ cs. sym (position-present _ cs _ _ _ l (c .if2 .taken)), λ e. (l, c .if2 .taken)))
+
+returns-2 : tie.Need-returns-2
+returns-2 c =
+    let found = c .before .before .before in (
+      found .position .ensures,
+      (λ cs. sym (position-absent (found .position .ensures) (found .before .pre .1) cs (λ l. c .if2 .left)), λ e. absurd (false≢true e)),
+    )
+
+returns-3 : tie.Need-returns-3
+returns-3 c =
+    let found = c .before in (
+      found .position .ensures,
+      (
+        λ cs. sym (position-absent (found .position .ensures) (found .before .pre .1) cs (λ l e. omega (arith, c .if1 .left))),
+        λ e. absurd (false≢true e),
+      ),
+    )
+
+pub find-spec : {M : Type 1} → statement M
+find-spec =
+    tie.close (tie.spec position-requires mul-if2 element-copy-out-if2 returns returns-2 returns-3)

@@ -1,0 +1,113 @@
+-- `placement::settle::turns_of` meets its contract: its arrays are the rules' releases and needs, and the walk over them is the rules' own.
+use mathlib.Core.Path.{ap, _∙_}
+use native.Mathlib.Omega.{arith}
+use borrow.Author.Needs.{needs}
+use Rattle.slicing.specs.Runs.{coalesce}
+use Rattle.slicing.specs.SixSteps.{sameTurn}
+use Rattle.slicing.proofs.Devices.{rising-capacities}
+use Rattle.slicing_core.specs.Rows.{deviceRows}
+use Rattle.slicing_core.proofs.DeviceRows.{ascending-rising, below-rising, capacities-rising}
+use Rattle.slicing_core.proofs.Rows.{length-deviceRows}
+use Rattle.placement.proofs.Turning.{intervals-most, owners-below, total-range, takens-of, turns-of}
+use Rattle.placement.proofs.ValidParts.{valid-limited}
+use Rattle.placement.proofs.settle.turns_of.Statement.{statement}
+use Rattle.placement.proofs.settle.turns_of.Tie as tie
+
+wide-starts-requires : tie.Need-wide-starts-requires
+wide-starts-requires c κs = search needs
+
+wide-owners-requires : tie.Need-wide-owners-requires
+wide-owners-requires c κs = search needs
+
+lengths-of-requires : tie.Need-lengths-of-requires
+lengths-of-requires c κs =
+    let s = c .before .before .before .before .before .before in
+    intervals-most (s .args .pool) (s .pre .0) (s .pre .1)
+
+by-owner-requires : tie.Need-by-owner-requires
+by-owner-requires c κs =
+    let w = c .before .before .before .before .before in
+    let s = w .before .before .before .before in
+    let t = total-range (s .args .pool) (s .pre .0) (s .pre .1) _ _ _ (w .before .wide-starts .ensures) (w .wide-owners .ensures) (c .before .before .lengths-of .ensures .0) in (
+      intervals-most (s .args .pool) (s .pre .0) (s .pre .1),
+      owners-below (s .args .pool) (s .pre .0) (s .pre .1) _ _ _ (w .before .wide-starts .ensures) (w .wide-owners .ensures) (c .before .before .lengths-of .ensures .0),
+      omega (arith, t, valid-limited (s .args .pool) (s .pre .0) .most),
+    )
+
+shares-requires : tie.Need-shares-requires
+shares-requires c κs =
+    let s = c .before .before .before .before .before .before .before .before .before .before in
+    let d = s .args .ids .now in
+    let k = s .args .capacities .now in
+    let r = s .pre .4 in (
+      (s .pre .3, valid-limited (s .args .pool) (s .pre .0) .most, λ i l. omega (arith, capacities-rising d k (s .args .n) r i l)),
+      omega (arith, rising-capacities 0 (deviceRows d k 0 (s .args .n)) r, length-deviceRows d k 0 (s .args .n), s .pre .2),
+    )
+
+quotas-requires : tie.Need-quotas-requires
+quotas-requires c κs =
+    let b = c .before .before .before in
+    let s = b .before .before .before .before .before .before .before .before .before .before in (
+      s .pre .3,
+      below-rising (s .args .ids .now) (s .args .capacities .now) (s .args .n) (s .pre .4),
+      ascending-rising (s .args .ids .now) (s .args .capacities .now) (s .args .n) (s .pre .4),
+      b .by-owner .ensures .1,
+    )
+
+walk-requires : tie.Need-walk-requires
+walk-requires c κs =
+    let q = c .before .before .before .before in
+    let h = q .before .before .before in
+    let b = h .before in
+    let l = b .before .before .before in
+    let w = l .before .before .before in
+    let s = w .before .before .before .before in
+    let a = s .args in
+    let v = s .pre .0 in
+    let t = total-range (a .pool) v (s .pre .1) _ _ _ (w .before .wide-starts .ensures) (w .wide-owners .ensures) (l .lengths-of .ensures .0) in (
+      (
+        intervals-most (a .pool) v (s .pre .1),
+        s .pre .3,
+        owners-below (a .pool) v (s .pre .1) _ _ _ (w .before .wide-starts .ensures) (w .wide-owners .ensures) (l .lengths-of .ensures .0),
+        below-rising (a .ids .now) (a .capacities .now) (a .n) (s .pre .4),
+      ),
+      (
+        (q .quotas .ensures .leftSize, q .quotas .ensures .needsSize),
+        (
+          omega (arith, t, valid-limited (a .pool) v .most),
+          takens-of (a .pool) v (s .pre .1) _ _ _ (w .before .wide-starts .ensures) (w .wide-owners .ensures) (l .lengths-of .ensures .0)
+              (a .ids .now) (a .capacities .now) (a .n) (s .pre .4) (s .pre .2) _ _ (b .by-owner .ensures .1) (b .by-owner .ensures .0)
+              (h .shares .ensures .0) _ _ (q .quotas .ensures),
+        ),
+      ),
+    )
+
+returns : tie.Need-returns
+returns c =
+    let q = c .before .before .before .before .before in
+    let h = q .before .before .before in
+    let b = h .before in
+    let l = b .before .before .before in
+    let w = l .before .before .before in
+    let s = w .before .before .before .before in
+    let a = s .args in (
+      c .walk .ensures .0
+          ∙ ap (coalesce sameTurn)
+          (turns-of (a .pool) (s .pre .0) (s .pre .1) _ _ _ (w .before .wide-starts .ensures) (w .wide-owners .ensures) (l .lengths-of .ensures .0)
+          (a .ids .now) (a .capacities .now) (a .n) (s .pre .4) (s .pre .2) _ _ (b .by-owner .ensures .1) (b .by-owner .ensures .0)
+          (h .shares .ensures .0) _ _ (q .quotas .ensures)),
+      c .walk .ensures .1,
+    )
+
+pub turns-of-spec : {M : Type 1} → statement M
+turns-of-spec =
+    tie.close
+    (tie.spec
+    wide-starts-requires
+    wide-owners-requires
+    lengths-of-requires
+    by-owner-requires
+    shares-requires
+    quotas-requires
+    walk-requires
+    returns)
