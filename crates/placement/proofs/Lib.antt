@@ -15,3 +15,4 @@ pub mod WrittenMoves
 pub mod NextDevices
 pub mod ShareAnswers
 pub mod Calls
+pub mod CallLists

@@ -188,7 +188,7 @@ given-some (add d c) (e ∷ es) ms o h x = refl
 given-some (remove d) es ms o h x = refl
 given-some (resize d c) es ms o h x = refl
 
-or-false : (a b : Bool) → a || b ≡ false → (a ≡ false) × (b ≡ false)
+pub or-false : (a b : Bool) → a || b ≡ false → (a ≡ false) × (b ≡ false)
 or-false true b e = absurd (true≢false e)
 or-false false b e = (refl, e)
 
