@@ -217,4 +217,5 @@ def main():
     (here / "stdout").write_text("".join(printed for _, printed in cases))
 
 
-main()
+if __name__ == "__main__":
+    main()

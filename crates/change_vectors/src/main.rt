@@ -2,8 +2,7 @@
 // output are made from test vectors by tools/change_vectors.py. One pool is kept from line to line.
 //
 //   0 R M                       a fresh pool: the refusal number; the pool
-//   1 R M n q i k ..            the pool's numbers as they stand: n devices and q intervals; then id and
-//                               capacity of i places, then start and owner of k places
+//   1 R M n q i k ..            the pool that `pool_text` loads from the line
 //   2 id capacity places whole  adds a device, with a list of so many places
 //   3 id 0 places whole         removes it
 //   4 id capacity places whole  resizes it: the refusal number, the moved points and the number of moves;
@@ -20,7 +19,6 @@ use placement::ChangeAnswer;
 use placement::Pool;
 use placement::ShareAnswer;
 ghost use mathlib.Core.Path.{_≡_};
-ghost use Prim.Native.Nat.{_≤_};
 ghost use lib.ListN.{length};
 
 // What the list holds before a call.
@@ -32,30 +30,6 @@ fn wide16(x: u16) -> u64 {
 
 fn wide32(x: u32) -> u64 {
     x as u64
-}
-
-// The number, or the largest that fits.
-fn narrow16(x: u64) -> u16 {
-    if x > 65535 {
-        return 65535;
-    }
-    x as u16
-}
-
-fn narrow32(x: u64) -> u32 {
-    if x > 4294967295 {
-        return 4294967295;
-    }
-    x as u32
-}
-
-fn least(a: u64, b: usize) -> usize
-    ensures { λ r. ⌜ r ≤ b ⌝ }
-{
-    if a < b as u64 {
-        return a as usize;
-    }
-    b
 }
 
 fn spaced(n: u64) {
@@ -141,77 +115,6 @@ fn unwritten(list: &[u64], n: usize) -> usize {
     found
 }
 
-// The number at a place of a line, 0 past the end.
-fn number(numbers: &[u64; 16384], place: usize) -> u64 {
-    if place >= 16384 {
-        return 0;
-    }
-    numbers[place]
-}
-
-fn with_device(pool: Pool, place: usize, id: u64, capacity: u64) -> Pool {
-    let mut next = pool;
-    if place < 256 {
-        next.ids[place] = narrow16(id);
-        next.capacities[place] = narrow32(capacity);
-    }
-    next
-}
-
-fn with_interval(pool: Pool, place: usize, start: u64, owner: u64) -> Pool {
-    let mut next = pool;
-    if place < 4096 {
-        next.starts[place] = narrow32(start);
-        next.owners[place] = narrow16(owner);
-    }
-    next
-}
-
-// The pool with the pairs of a line, from place `from` on, at its first n places.
-fn with_devices(pool: Pool, numbers: &[u64; 16384], from: usize, n: usize) -> Pool
-    requires { ⌜ (from ≤ 16384) × (n ≤ 4096) ⌝ }
-{
-    let mut next = pool;
-    let mut i = 0;
-    while i < n {
-        let at = from + 2 * i;
-        next = with_device(next, i, number(numbers, at), number(numbers, at + 1));
-        i += 1;
-    }
-    next
-}
-
-fn with_intervals(pool: Pool, numbers: &[u64; 16384], from: usize, n: usize) -> Pool
-    requires { ⌜ (from ≤ 16384) × (n ≤ 4096) ⌝ }
-{
-    let mut next = pool;
-    let mut i = 0;
-    while i < n {
-        let at = from + 2 * i;
-        next = with_interval(next, i, number(numbers, at), number(numbers, at + 1));
-        i += 1;
-    }
-    next
-}
-
-// The pool whose numbers a line gives.
-fn loaded(numbers: &[u64; 16384]) -> Pool {
-    let devices = least(numbers[5], 256);
-    let intervals = least(numbers[6], 4096);
-    let bare = Pool {
-        range: numbers[1],
-        limit: narrow32(numbers[2]),
-        devices: numbers[3] as usize,
-        ids: [0; 256],
-        capacities: [0; 256],
-        intervals: numbers[4] as usize,
-        starts: [0; 4096],
-        owners: [0; 4096],
-    };
-    let half = with_devices(bare, numbers, 7, devices);
-    with_intervals(half, numbers, 7 + 2 * devices, intervals)
-}
-
 fn fresh_case(range: u64, limit: u64) -> Pool {
     let answer = placement::fresh(range, limit);
     let pool = answer.pool;
@@ -259,7 +162,7 @@ fn change_within(pool: Pool, numbers: &[u64; 16384], list: &mut [u64]) -> Pool {
 
 fn change_case(pool: Pool, numbers: &[u64; 16384]) -> Pool {
     let mut list = unwritten_list();
-    let n = 4 * least(numbers[3], 4096);
+    let n = 4 * pool_text::least(numbers[3], 4096);
     change_within(pool, numbers, &mut list[..n])
 }
 
@@ -284,7 +187,7 @@ fn run(pool: Pool, numbers: &[u64; 16384]) -> Pool {
         return fresh_case(numbers[1], numbers[2]);
     }
     if kind == 1 {
-        return loaded(numbers);
+        return pool_text::loaded(numbers);
     }
     if kind == 5 {
         share_case(pool, numbers[1]);

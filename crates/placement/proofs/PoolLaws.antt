@@ -56,10 +56,6 @@ zeros-padded N ys i l h =
     ∙ getD-replicate (N - length ys) (i - length ys) 0 0
     (omega (arith, length-append ys (replicate (N - length ys) 0), length-replicate {A = ℕ} (N - length ys) 0))
 
-pub length-padded : (N : ℕ) (ys : List ℕ) → length ys ≤ N → length (padded N ys) ≡ N
-length-padded N ys h =
-    omega (arith, length-append ys (replicate (N - length ys) 0), length-replicate {A = ℕ} (N - length ys) 0)
-
 -- ---- rows and the lists that they come from
 
 -- n from place i on
@@ -88,7 +84,7 @@ length-tableRows p o R i (suc zero) = refl
 length-tableRows p o R i (suc (suc n)) = ap suc (length-tableRows p o R (suc i) (suc n))
 
 -- intervals of at least one point: the last ends at R, and each begins where the last ends
-total-tableRows : (p o : List ℕ) (R i n : ℕ) → Coalesced eqb (tableRows p o R i (suc n)) → at p i + total (tableRows p o R i (suc n)) ≡ R
+pub total-tableRows : (p o : List ℕ) (R i n : ℕ) → Coalesced eqb (tableRows p o R i (suc n)) → at p i + total (tableRows p o R i (suc n)) ≡ R
 total-tableRows p o R i zero h = omega (arith, h .0)
 total-tableRows p o R i (suc n) h = omega (arith, h .0, total-tableRows p o R (suc i) n (h .2))
 

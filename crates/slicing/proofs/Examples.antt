@@ -1,7 +1,5 @@
--- The examples of document 01, 'Marked for proof', as theorems of their names, and beside them the cases that pin what they
--- leave open.
+-- Cases that pin what document 01's marked examples (crate `marked`) leave open.
 --
---   K5 .. K11                          document 01's examples
 --   cut-passes .. cut-at-end           the five cases of a cut, with the flag and the touch after each
 --   flag-stays .. touch-of-end         tables that another cut rule would leave otherwise
 --   share-tie, share-rank              the leftover by rank, a share of 0
@@ -22,59 +20,20 @@ use Rattle.slicing.specs.ShareRule.{shares}
 use Rattle.slicing.specs.SixSteps.{start, end, cut, turns, Move, move}
 
 -- a list of n places
-abbrev places : ℕ → List Move
+abbrev pub places : ℕ → List Move
 places n = replicate n (move 0 0 0 0)
 
 -- the pool after changes
-abbrev after : State → List Change → State
+abbrev pub after : State → List Change → State
 after s [] = s
 after s (k ∷ ks) = after (change s (places 16) k .state) ks
 
 -- the outcome of one more
-abbrev next : State → List Change → Change → Outcome
+abbrev pub next : State → List Change → Change → Outcome
 next s ks k = change (after s ks) (places 16) k
 
-abbrev threeEqual : List Change
+abbrev pub threeEqual : List Change
 threeEqual = add 1 1000 ∷ add 2 1000 ∷ add 3 1000 ∷ []
-
--- R = 100, three equal: shares 34, 33, 33
-pub K5 : shares 100 (device 1 1000 ∷ device 2 1000 ∷ device 3 1000 ∷ []) ≡ (34 of 1) ∷ (33 of 2) ∷ (33 of 3) ∷ []
-unfolding shares largestRemainder
-K5 = refl
-
--- after line 4 it is 0–33 to device 1, 34–66 to 3, 67–99 to 2
-pub K6 : after (fresh 100 16) threeEqual .table ≡ (34 of 1) ∷ (33 of 3) ∷ (33 of 2) ∷ []
-unfolding change turns shares largestRemainder
-K6 = refl
-
--- after line 6 it is 0–33 to 1, 34–66 to 3, 67–82 to 1, 83–99 to 3
-pub K7 : next (fresh 100 16) threeEqual (remove 2) .state .table ≡ (34 of 1) ∷ (33 of 3) ∷ (16 of 1) ∷ (17 of 3) ∷ []
-unfolding change turns shares largestRemainder
-K7 = refl
-
--- the table that is printed after line 7
-pub K8 : next (fresh 100 16) (add 1 1000 ∷ add 2 1000 ∷ add 3 1000 ∷ remove 2 ∷ []) (resize 3 3000) .state .table
-    ≡ (9 of 1) ∷ (58 of 3) ∷ (16 of 1) ∷ (17 of 3) ∷ []
-unfolding change turns shares largestRemainder
-K8 = refl
-
--- R = 100, M = 1: a second add of equal capacity gives 8; M = 2 accepts it
-pub K9 : (next (fresh 100 1) (add 1 1000 ∷ []) (add 2 1000) .number ≡ 8) × (next (fresh 100 2) (add 1 1000 ∷ []) (add 2 1000) .number ≡ 0)
-unfolding change turns shares largestRemainder
-K9 = (refl, refl)
-
--- R = 1, M = 1: a second add of equal capacity and higher id is accepted and moves nothing; with a lower id it moves point 0
-pub K10 : (next (fresh 1 1) (add 5 1000 ∷ []) (add 6 1000) .number ≡ 0) × (written (next (fresh 1 1) (add 5 1000 ∷ []) (add 6 1000)) ≡ [])
-    × (next (fresh 1 1) (add 5 1000 ∷ []) (add 4 1000) .number ≡ 0) × (written (next (fresh 1 1) (add 5 1000 ∷ []) (add 4 1000)) ≡ move 0 1 5 4 ∷ [])
-unfolding change turns shares largestRemainder
-K10 = (refl, refl, refl, refl)
-
--- R = 10, capacities 0.143, 0.857, then 0.030: shares 1, 9 become 2, 8, 0, and point 9 goes from device 2 to 1
-pub K11 : (shares 10 (device 1 143 ∷ device 2 857 ∷ []) ≡ (1 of 1) ∷ (9 of 2) ∷ [])
-    × (shares 10 (device 1 143 ∷ device 2 857 ∷ device 3 30 ∷ []) ≡ (2 of 1) ∷ (8 of 2) ∷ (0 of 3) ∷ [])
-    × (written (next (fresh 10 16) (add 1 143 ∷ add 2 857 ∷ []) (add 3 30)) ≡ move 9 1 2 1 ∷ [])
-unfolding change turns shares largestRemainder
-K11 = (refl, refl, refl)
 
 -- ---- the five cases of a cut
 

@@ -1,25 +1,22 @@
 -- Laws of rows of devices: what a caller needs to go from arrays to the rules' list of devices.
 --
 -- Rising: rising-row, row-rising, none-rising (a loop over the rows); within-rising, ascending-rising, below-rising, capacities-rising
--- present: position-present, position-absent, present-position
+-- present: position-present, position-absent
 -- insert: insert-rows; delete: delete-rows; update: update-rows
--- rows with an empty one more: expand-inserted, owned-inserted
 use mathlib.Core.Path.{_≡_, refl, sym, ap, _∙_}
-use mathlib.Core.Bool.{Bool, true, false, cond, _||_, false≢true}
-use mathlib.Core.List.{List, _∷_, _++_}
+use mathlib.Core.Bool.{Bool, true, false, cond, _||_}
+use mathlib.Core.List.{List, _∷_}
 use mathlib.Core.Logic.{_⊎_, inl, inr}
 use Prim.Native.Nat.{ℕ, zero, suc, _+_, _-_, _≤_, _<_}
 use native.Mathlib.Nat.{eq-or-lt-of-le}
 use native.Mathlib.Numerals.{add-one}
 use native.Mathlib.Omega.{arith}
 use lib.Dec.{eqb, ltb}
-use lib.ListN.{length, set, replicate}
+use lib.ListN.{length, set}
 use lib.Seq.{getD-set-same, getD-set-other}
 use borrow.Author.Tests.{lt-ltb, le-ltb, eq-eqb, ne-eqb, eqb-true, eqb-false, ltb-true, ltb-false}
 use Rattle.slicing.specs.Devices.{device, present, insert, delete, update, Within, Rising}
-use Rattle.slicing.specs.Runs.{owned, expand, count}
-use Rattle.slicing.proofs.Runs.{count-expand}
-use Rattle.slicing_core.specs.Rows.{at, rows, deviceRows}
+use Rattle.slicing_core.specs.Rows.{at, deviceRows}
 use Rattle.slicing_core.specs.Stages.{Below, Ascending, Position, Inserted, Deleted}
 use Rattle.slicing_core.proofs.Rows.{deviceRows-step, deviceRows-end}
 
@@ -112,14 +109,6 @@ module _ {d : List ℕ} {n v p : ℕ} (q : Position d n v p) (a : Ascending d n)
   pub position-absent : (c : List ℕ) → (p < n → at d p ≡ v → ⊥) → present v (deviceRows d c 0 n) ≡ false
   position-absent c h = present-without d c v 0 n (position-without h)
 
-  pub present-position : (c : List ℕ) → present v (deviceRows d c 0 n) ≡ true → (p < n) × (at d p ≡ v)
-  present-position c h = go (ltb p n) (eqb (at d p) v) refl refl
-    where
-      go : (s t : Bool) → ltb p n ≡ s → eqb (at d p) v ≡ t → (p < n) × (at d p ≡ v)
-      go true true x y = (ltb-true p n x, eqb-true (at d p) v y)
-      go true false x y = absurd (false≢true (sym (position-absent c (λ l. eqb-false (at d p) v y)) ∙ h))
-      go false t x y = absurd (false≢true (sym (position-absent c (λ l e. omega (arith, ltb-false p n x))) ∙ h))
-
 -- ---- rows that stand one place further on in other arrays
 
 abbrev Up : List ℕ → List ℕ → ℕ → ℕ → Type 0
@@ -135,11 +124,6 @@ deviceRows-up : (d c d' c' : List ℕ) (i m : ℕ) → Up d d' i m → Up c c' i
 deviceRows-up d c d' c' i zero f g = refl
 deviceRows-up d c d' c' i (suc m) f g =
     rw (up-first d d' i m f, up-first c c' i m g, deviceRows-up d c d' c' (suc i) m (up-rest d d' i m f) (up-rest c c' i m g))
-
-rows-up : (s l s' l' : List ℕ) (i m : ℕ) → Up s s' i m → Up l l' i m → rows s' l' (suc i) m ≡ rows s l i m
-rows-up s l s' l' i zero f g = refl
-rows-up s l s' l' i (suc m) f g =
-    rw (up-first s s' i m f, up-first l l' i m g, rows-up s l s' l' (suc i) m (up-rest s s' i m f) (up-rest l l' i m g))
 
 up-inserted : {xs ys : List ℕ} {p v : ℕ} → Inserted xs p v ys → (m : ℕ) → p + m < 256 → Up xs ys p m
 up-inserted h m b k l s = h .after k l (omega arith)
@@ -225,24 +209,3 @@ module _ (d c : List ℕ) {n p v : ℕ} (w : ℕ) (l : p < n) (e : at d p ≡ v)
 
   pub update-rows : deviceRows d (set c p w) 0 n ≡ update v w (deviceRows d c 0 n)
   update-rows = update-from 0 n (omega arith)
-
--- ---- rows with an empty one more
-
-module _ {s l s' l' : List ℕ} {n p v : ℕ} (h : p ≤ n) (b : n < 256) (x : Inserted s p 0 s') (y : Inserted l p v l') where
-  expand-from : (i m : ℕ) → i + m ≡ n → i ≤ p → expand (rows s' l' i (suc m)) ≡ expand (rows s l i m)
-  expand-from i zero e k = let z : i ≡ p = omega arith in rw (z, x .here)
-  expand-from i (suc m) e k = go (eq-or-lt-of-le k) (expand-from (suc i) m (omega arith))
-    where
-      go : (i ≡ p) ⊎ (i < p) → (suc i ≤ p → expand (rows s' l' (suc i) (suc m)) ≡ expand (rows s l (suc i) m))
-          → expand (rows s' l' i (suc (suc m))) ≡ expand (rows s l i (suc m))
-      go (inl z) ih =
-          rw (z, x .here)
-          (ap expand (rows-up s l s' l' p (suc m) (up-inserted x (suc m) (omega arith)) (up-inserted y (suc m) (omega arith))))
-      go (inr r) ih = rw (x .before i r, y .before i r) (ap (λ q. replicate (at s i) (at l i) ++ q) (ih r))
-
-  pub expand-inserted : expand (rows s' l' 0 (n + 1)) ≡ expand (rows s l 0 n)
-  expand-inserted = rw (add-one n) (expand-from 0 n (omega arith) (omega arith))
-
-  pub owned-inserted : (d : ℕ) → owned d (rows s' l' 0 (n + 1)) ≡ owned d (rows s l 0 n)
-  owned-inserted d =
-      sym (count-expand d (rows s' l' 0 (n + 1))) ∙ ap (count d) expand-inserted ∙ count-expand d (rows s l 0 n)

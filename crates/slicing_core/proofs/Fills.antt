@@ -2,7 +2,7 @@
 --
 --   Filling f xs i     the first i of xs are those of f, and the others are 0
 --
--- Filling: filling-none, filling-put (a store), filling-skip (a turn with no store)
+-- Filling: filling-none, filling-put (a store)
 use mathlib.Core.Path.{_≡_, refl, sym, _∙_}
 use mathlib.Core.List.{List}
 use Prim.Native.Nat.{ℕ, zero, suc, _+_, _≤_, _<_}
@@ -29,11 +29,4 @@ filling-put {f} {xs} {ys} {i} {v} h l s e = rw s record {
   done = below-more (λ k. at (set xs i v) k ≡ f k) i (λ k m. getD-set-other xs i k v 0 (λ z. omega arith) ∙ h .done k m)
       (getD-set-same xs i v 0 (omega (arith, h .size)) ∙ e);
   left = λ k m. getD-set-other xs i k v 0 (λ z. omega arith) ∙ h .left k (omega arith);
-}
-
-pub filling-skip : {f : ℕ → ℕ} {xs ys : List ℕ} {i : ℕ} → Filling f xs i → ys ≡ xs → f i ≡ 0 → Filling f ys (i + 1)
-filling-skip {f} {xs} {ys} {i} h s e = rw s record {
-  size = h .size;
-  done = below-more (λ k. at xs k ≡ f k) i (h .done) (h .left i (omega arith) ∙ sym e);
-  left = λ k m. h .left k (omega arith);
 }

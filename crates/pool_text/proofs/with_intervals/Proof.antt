@@ -1,8 +1,8 @@
--- `change_vectors::with_intervals` is safe and ends. The loop's invariant: `i` is at most n.
+-- `pool_text::with_intervals` is safe and ends. The loop's invariant: `i` is at most n.
 use Prim.Native.Nat.{_≤_, _-_}
 use borrow.Author.Needs.{needs}
-use Rattle.change_vectors.proofs.with_intervals.Statement.{statement}
-use Rattle.change_vectors.proofs.with_intervals.Tie as tie
+use Rattle.pool_text.proofs.with_intervals.Statement.{statement}
+use Rattle.pool_text.proofs.with_intervals.Tie as tie
 
 abbrev Inv-loop : tie.InvT-loop
 Inv-loop numbers from n next₀ i₀ next i = i ≤ n

@@ -1,0 +1,382 @@
+// Measures `lookups::copies_in` of crates/lookups, by way of `bench_lookups_run`, against the same steps
+// in Rust. See `run` for how this is built and called.
+//
+//   check N         both give the same checksum of the copies of N blocks
+//   ours N, rust N  one of the two alone, for an instruction counter
+//   time N          each five times, in turn, and the best of the five
+use std::hint::black_box;
+use std::process::exit;
+use std::time::Instant;
+
+extern "C" {
+    fn bench_lookups_run(
+        starts: *const u32,
+        owners: *const u16,
+        intervals: usize,
+        devices: usize,
+        range: u64,
+        count: u64,
+    ) -> u64;
+}
+
+struct Table {
+    starts: [u32; 4096],
+    owners: [u16; 4096],
+    intervals: usize,
+    devices: usize,
+    range: u64,
+}
+
+// 4,096 intervals of one size, of 200 devices.
+fn table() -> Table {
+    let mut starts = [0; 4096];
+    let mut owners = [0; 4096];
+    for i in 0..4096 {
+        starts[i] = i as u32 * 1048576;
+        owners[i] = 1 + (i * 7919 % 200) as u16;
+    }
+    Table { starts, owners, intervals: 4096, devices: 200, range: 4294967296 }
+}
+
+fn ours_run(t: &Table, count: u64) -> u64 {
+    // It reads 4,096 numbers from each pointer, takes any, and has no other effect than its result.
+    unsafe { bench_lookups_run(t.starts.as_ptr(), t.owners.as_ptr(), t.intervals, t.devices, t.range, count) }
+}
+
+fn rust_run(t: &Table, count: u64) -> u64 {
+    rust::run(&t.starts, &t.owners, t.intervals, t.devices, t.range, count)
+}
+
+mod rust {
+    // The first word of a digest.
+
+    const K0: u32 = 0x5a827999;
+    const K20: u32 = 0x6ed9eba1;
+    const K40: u32 = 0x8f1bbcdc;
+    const K60: u32 = 0xca62c1d6;
+
+    const INITIAL: [u32; 5] = [0x67452301, 0xefcdab89, 0x98badcfe, 0x10325476, 0xc3d2e1f0];
+
+    #[derive(Clone, Copy)]
+    struct Hash {
+        a: u32,
+        b: u32,
+        c: u32,
+        d: u32,
+        e: u32,
+    }
+
+    fn initial() -> Hash {
+        let h = INITIAL;
+        Hash { a: h[0], b: h[1], c: h[2], d: h[3], e: h[4] }
+    }
+
+    fn rotl(n: u32, x: u32) -> u32 {
+        (x << n) | (x >> (32 - n))
+    }
+
+    fn ch(x: u32, y: u32, z: u32) -> u32 {
+        (x & y) ^ (!x & z)
+    }
+
+    fn parity(x: u32, y: u32, z: u32) -> u32 {
+        x ^ y ^ z
+    }
+
+    fn maj(x: u32, y: u32, z: u32) -> u32 {
+        (x & y) ^ (x & z) ^ (y & z)
+    }
+
+    fn scheduled(w: &mut [u32; 16], t: usize) -> u32 {
+        let s = t % 16;
+        if t >= 16 {
+            w[s] = rotl(1, w[(t + 13) % 16] ^ w[(t + 8) % 16] ^ w[(t + 2) % 16] ^ w[s]);
+        }
+        w[s]
+    }
+
+    fn round(v: Hash, f: u32, k: u32, word: u32) -> Hash {
+        let kept = rotl(5, v.a).wrapping_add(f).wrapping_add(v.e);
+        Hash {
+            a: kept.wrapping_add(k).wrapping_add(word),
+            b: v.a,
+            c: rotl(30, v.b),
+            d: v.c,
+            e: v.d,
+        }
+    }
+
+    fn rounds_0(w: &mut [u32; 16], start: Hash) -> Hash {
+        let mut v = start;
+        let mut t = 0;
+        while t < 20 {
+            let word = scheduled(w, t);
+            v = round(v, ch(v.b, v.c, v.d), K0, word);
+            t += 1;
+        }
+        v
+    }
+
+    fn rounds_20(w: &mut [u32; 16], start: Hash) -> Hash {
+        let mut v = start;
+        let mut t = 20;
+        while t < 40 {
+            let word = scheduled(w, t);
+            v = round(v, parity(v.b, v.c, v.d), K20, word);
+            t += 1;
+        }
+        v
+    }
+
+    fn rounds_40(w: &mut [u32; 16], start: Hash) -> Hash {
+        let mut v = start;
+        let mut t = 40;
+        while t < 60 {
+            let word = scheduled(w, t);
+            v = round(v, maj(v.b, v.c, v.d), K40, word);
+            t += 1;
+        }
+        v
+    }
+
+    fn rounds_60(w: &mut [u32; 16], start: Hash) -> Hash {
+        let mut v = start;
+        let mut t = 60;
+        while t < 80 {
+            let word = scheduled(w, t);
+            v = round(v, parity(v.b, v.c, v.d), K60, word);
+            t += 1;
+        }
+        v
+    }
+
+    fn compress(h: Hash, w: &mut [u32; 16]) -> Hash {
+        let v0 = rounds_0(w, h);
+        let v20 = rounds_20(w, v0);
+        let v40 = rounds_40(w, v20);
+        let v = rounds_60(w, v40);
+        Hash {
+            a: v.a.wrapping_add(h.a),
+            b: v.b.wrapping_add(h.b),
+            c: v.c.wrapping_add(h.c),
+            d: v.d.wrapping_add(h.d),
+            e: v.e.wrapping_add(h.e),
+        }
+    }
+
+    fn first_word(high: u64, low: u32) -> u32 {
+        let mut w = [0u32; 16];
+        w[0] = (high / 4294967296) as u32;
+        w[1] = (high % 4294967296) as u32;
+        w[2] = low;
+        w[3] = 0x80000000;
+        w[15] = 96;
+        let h = compress(initial(), &mut w);
+        h.a
+    }
+
+    // The stages of a lookup.
+
+    fn place(starts: &[u32; 4096], n: usize, point: u64) -> usize {
+        let mut lo = 0;
+        let mut hi = n;
+        while lo + 1 < hi {
+            let middle = (lo + hi) / 2;
+            if starts[middle] as u64 <= point {
+                lo = middle;
+            } else {
+                hi = middle;
+            }
+        }
+        lo
+    }
+
+    fn owner_found(starts: &[u32; 4096], owners: &[u16; 4096], n: usize, point: u64) -> u64 {
+        let mut most = n;
+        if n > 4096 {
+            most = 4096;
+        }
+        if most == 0 {
+            return 0;
+        }
+        let i = place(starts, most, point);
+        owners[i] as u64
+    }
+
+    fn probe_point(block: u64, probe: u32, range: u64) -> u64 {
+        let h = first_word(block, probe) as u64;
+        h * range / 4294967296
+    }
+
+    fn chosen(owners: &[u16; 8], n: usize, owner: u16) -> bool {
+        let mut i = 0;
+        while i < n {
+            if owners[i] == owner {
+                return true;
+            }
+            i += 1;
+        }
+        false
+    }
+
+    struct Walk {
+        owners: [u16; 8],
+        found: usize,
+        probes: u32,
+    }
+
+    fn walk_probes(
+        starts: &[u32; 4096],
+        owners: &[u16; 4096],
+        n: usize,
+        range: u64,
+        block: u64,
+        k: usize,
+    ) -> Walk {
+        let mut list = [0; 8];
+        let mut found = 0;
+        let mut t = 0;
+        while t < 256 {
+            let owner = owner_found(starts, owners, n, probe_point(block, t, range)) as u16;
+            t += 1;
+            if !chosen(&list, found, owner) {
+                list[found] = owner;
+                found += 1;
+                if found == k {
+                    return Walk { owners: list, found, probes: t };
+                }
+            }
+        }
+        Walk { owners: list, found, probes: t }
+    }
+
+    // The call.
+
+    #[derive(Clone, Copy)]
+    struct Counters {
+        lookups: u32,
+        probes: u32,
+    }
+
+    struct CopiesAnswer {
+        refusal: u32,
+        owners: [u16; 8],
+        probes: u32,
+        counters: Counters,
+    }
+
+    fn raised(x: u32, y: u32) -> u32 {
+        if x <= u32::MAX - y { x + y } else { u32::MAX }
+    }
+
+    fn refused(refusal: u32, probes: u32, counters: Counters) -> CopiesAnswer {
+        CopiesAnswer { refusal, owners: [0; 8], probes, counters }
+    }
+
+    fn copies_in(
+        starts: &[u32; 4096],
+        owners: &[u16; 4096],
+        intervals: usize,
+        devices: usize,
+        range: u64,
+        block: u64,
+        k: u64,
+        counters: Counters,
+    ) -> CopiesAnswer {
+        if k < 1 {
+            return refused(11, 0, counters);
+        }
+        if k > 8 {
+            return refused(11, 0, counters);
+        }
+        if devices == 0 {
+            return refused(10, 0, counters);
+        }
+        let mut most = range;
+        if range > 4294967296 {
+            most = 4294967296;
+        }
+        let walk = walk_probes(starts, owners, intervals, most, block, k as usize);
+        if walk.found < k as usize {
+            return refused(12, 256, counters);
+        }
+        let after = Counters {
+            lookups: raised(counters.lookups, 1),
+            probes: raised(counters.probes, walk.probes),
+        };
+        CopiesAnswer { refusal: 0, owners: walk.owners, probes: walk.probes, counters: after }
+    }
+
+    // Many lookups, with their checksum.
+
+    fn mix(x: u64, y: u64) -> u64 {
+        ((x % 72057594037927936) * 251) ^ y
+    }
+
+    fn mix_owners(x: u64, owners: &[u16; 8]) -> u64 {
+        mix(mix(mix(x, owners[0] as u64), owners[1] as u64), owners[2] as u64)
+    }
+
+    #[inline(never)]
+    pub fn run(
+        starts: &[u32; 4096],
+        owners: &[u16; 4096],
+        intervals: usize,
+        devices: usize,
+        range: u64,
+        count: u64,
+    ) -> u64 {
+        let mut counters = Counters { lookups: 0, probes: 0 };
+        let mut sum = 0;
+        let mut block = 0;
+        while block < count {
+            let answer = copies_in(starts, owners, intervals, devices, range, block, 3, counters);
+            counters = answer.counters;
+            sum = mix(sum, answer.refusal as u64);
+            sum = mix_owners(sum, &answer.owners);
+            sum = mix(sum, answer.probes as u64);
+            block += 1;
+        }
+        mix(mix(sum, counters.lookups as u64), counters.probes as u64)
+    }
+}
+
+fn seconds(f: fn(&Table, u64) -> u64, t: &Table, count: u64) -> f64 {
+    let start = Instant::now();
+    black_box(f(black_box(t), black_box(count)));
+    start.elapsed().as_secs_f64()
+}
+
+fn main() {
+    let args: Vec<String> = std::env::args().collect();
+    let usage = || -> ! {
+        eprintln!("usage: {} check|ours|rust|time N", args[0]);
+        exit(2)
+    };
+    if args.len() != 3 {
+        usage();
+    }
+    let count: u64 = args[2].parse().unwrap_or_else(|_| usage());
+    let t = black_box(table());
+    match args[1].as_str() {
+        "check" => {
+            let (ours, rust) = (ours_run(&t, count), rust_run(&t, count));
+            if ours != rust {
+                println!("{count} blocks: ours {ours:016x}, Rust {rust:016x}: DIFFERENT");
+                exit(1);
+            }
+            println!("{count} blocks: both give {ours:016x}");
+        }
+        "ours" => println!("{:016x}", ours_run(black_box(&t), black_box(count))),
+        "rust" => println!("{:016x}", rust_run(black_box(&t), black_box(count))),
+        "time" => {
+            let (mut ours, mut rust) = (f64::INFINITY, f64::INFINITY);
+            for _ in 0..5 {
+                ours = ours.min(seconds(ours_run, &t, count));
+                rust = rust.min(seconds(rust_run, &t, count));
+            }
+            println!("{count} blocks, best of five: ours {ours:.3} s, Rust {rust:.3} s, ours/Rust {:.3}", ours / rust);
+        }
+        _ => usage(),
+    }
+}

@@ -1,0 +1,155 @@
+// Runs the calls of `lookups` on lines of numbers, and prints their answers. The lines and the expected
+// output are made from test vectors by tools/lookup_vectors.py. One pool is kept from line to line.
+//
+//   1 R M n q i k ..               the pool that `pool_text` loads from the line; prints nothing
+//   2 point whole                  the owner of a point: the refusal number and the owner
+//   3 block probe range            the point of a probe: the refusal number and the point
+//   4 block k lookups probes whole the copies of a block, with the counters before: the refusal number,
+//                                  eight owners, the probes, and the counters afterwards
+//
+// Where `whole` is not 1 only the refusal number is printed, if it is 10, 11 or 13, and else 0: the rules
+// fix no more for a pool that is not valid.
+use libc::STDOUT_FILENO;
+use lookups::CopiesAnswer;
+use lookups::Counters;
+use lookups::OwnerAnswer;
+use lookups::PointAnswer;
+use placement::Pool;
+
+fn wide16(x: u16) -> u64 {
+    x as u64
+}
+
+fn wide32(x: u32) -> u64 {
+    x as u64
+}
+
+fn spaced(n: u64) {
+    io::write_all(STDOUT_FILENO, b" ");
+    io::print_decimal(STDOUT_FILENO, n);
+}
+
+fn end_line() {
+    io::write_all(STDOUT_FILENO, b"\n");
+}
+
+// A line of two numbers.
+fn print_pair(a: u64, b: u64) {
+    io::print_decimal(STDOUT_FILENO, a);
+    spaced(b);
+    end_line();
+}
+
+// Prints a refusal number that the rules fix for every pool; 0 for any other.
+fn print_fixed(refusal: u32) {
+    let mut fixed = 0;
+    if refusal == 10 {
+        fixed = 10;
+    }
+    if refusal == 11 {
+        fixed = 11;
+    }
+    if refusal == 13 {
+        fixed = 13;
+    }
+    io::print_decimal(STDOUT_FILENO, fixed);
+    end_line();
+}
+
+fn print_owner(refusal: u32, owner: u64, whole: u64) {
+    if whole == 1 {
+        print_pair(wide32(refusal), owner);
+        return;
+    }
+    print_fixed(refusal);
+}
+
+fn owner_case(pool: Pool, point: u64, whole: u64) {
+    match lookups::owner_of(pool, point) {
+        OwnerAnswer::Owner(owner) => {
+            print_owner(0, owner, whole);
+        }
+        OwnerAnswer::Refused(refusal) => {
+            print_owner(refusal, 0, whole);
+        }
+    }
+}
+
+fn point_case(block: u64, probe: u64, range: u64) {
+    match lookups::point(block, probe, range) {
+        PointAnswer::Point(point) => {
+            print_pair(0, point);
+        }
+        PointAnswer::Refused(refusal) => {
+            print_pair(wide32(refusal), 0);
+        }
+    }
+}
+
+fn print_owners(owners: &[u16; 8]) {
+    let mut i = 0;
+    while i < 8 {
+        spaced(wide16(owners[i]));
+        i += 1;
+    }
+}
+
+fn print_copies(answer: CopiesAnswer) {
+    let owners = answer.owners;
+    let counters = answer.counters;
+    io::print_decimal(STDOUT_FILENO, wide32(answer.refusal));
+    print_owners(&owners);
+    spaced(wide32(answer.probes));
+    spaced(wide32(counters.lookups));
+    spaced(wide32(counters.probes));
+    end_line();
+}
+
+fn copies_case(pool: Pool, numbers: &[u64; 16384]) {
+    let counters = Counters {
+        lookups: pool_text::narrow32(numbers[3]),
+        probes: pool_text::narrow32(numbers[4]),
+    };
+    let answer = lookups::copies_of(pool, numbers[1], numbers[2], counters);
+    if numbers[5] == 1 {
+        print_copies(answer);
+        return;
+    }
+    print_fixed(answer.refusal);
+}
+
+// Runs a line, and answers the pool afterwards.
+fn run(pool: Pool, numbers: &[u64; 16384]) -> Pool {
+    let kind = numbers[0];
+    if kind == 1 {
+        return pool_text::loaded(numbers);
+    }
+    if kind == 2 {
+        owner_case(pool, numbers[1], numbers[2]);
+        return pool;
+    }
+    if kind == 3 {
+        point_case(numbers[1], numbers[2], numbers[3]);
+        return pool;
+    }
+    copies_case(pool, numbers);
+    pool
+}
+
+// A line without numbers ends the program.
+fn main() {
+    let first = placement::fresh(1, 1);
+    let mut pool = first.pool;
+    let mut piece = [0u8; 65536];
+    let mut numbers = [0u64; 16384];
+    let mut input = number_text::start();
+    let mut left: u64 = 1000000;
+    while left > 0 {
+        input = number_text::read_line(input, &mut piece, &mut numbers);
+        if input.count == 0 {
+            return;
+        }
+        pool = run(pool, &numbers);
+        left -= 1;
+    }
+}

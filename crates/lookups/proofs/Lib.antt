@@ -1,0 +1,4 @@
+pub mod Promised
+pub mod CounterLists
+pub mod LentPool
+pub mod CopyAnswers

@@ -1,0 +1,77 @@
+-- From what is promised on lent arrays to what is promised on a pool.
+--
+-- found-valid (the owner that halving finds in a valid pool is the table's), probe-valid (and of a probe); looked-in, copied-in
+use mathlib.Core.Path.{_≡_, refl, sym, ap, _∙_, subst, fun-ext}
+use mathlib.Core.Bool.{Bool, true, false, cond}
+use mathlib.Core.List.{List}
+use Prim.Native.Nat.{ℕ, zero, suc, _+_, _≤_, _<_, min}
+use native.Mathlib.Omega.{arith}
+use lib.Dec.{eqb, leb}
+use lib.ListN.{length}
+use borrow.Author.Tests.{leb-true, leb-false, eqb-true, eqb-false}
+use Rattle.lookup_core.specs.Halving.{ownerFound, clamped}
+use Rattle.lookup_core.specs.Probes.{pointOf}
+use Rattle.lookup_core.specs.Walks.{ownerOf}
+use Rattle.lookup_core.proofs.Halves.{ownerFound-table}
+use Rattle.lookup_core.proofs.PointLaws.{pointOf-below}
+use Rattle.placement.specs.Pools.{stateOf, ValidPool}
+use Rattle.placement.specs.declared.Pool.{Pool}
+use Rattle.placement.proofs.PoolLaws.{total-tableRows}
+use Rattle.placement.proofs.ValidParts.{valid-limited, valid-covered}
+use Rattle.slicing.specs.Limits.{maxRange}
+use Rattle.slicing.specs.Runs.{total, ownerAt, Coalesced}
+use Rattle.slicing_core.specs.Rows.{at, tableRows}
+use Rattle.lookups.specs.Copies.{Outcome, copiesOf}
+use Rattle.lookups.specs.Promises.{OwnerIs, LookedIn, Looked, Answered, CopiedIn, Copied, ownerRefusal}
+use Rattle.lookups.specs.declared.CopiesAnswer.{CopiesAnswer}
+use Rattle.lookups.specs.declared.Counters.{Counters}
+use Rattle.lookups.specs.declared.OwnerAnswer.{OwnerAnswer}
+
+-- a table that covers a range has an interval, and its first begins at 0
+first-start : (p o : List ℕ) (R q : ℕ) → 1 ≤ R → Coalesced eqb (tableRows p o R 0 q) → total (tableRows p o R 0 q) ≡ R → (1 ≤ q) × (at p 0 ≡ 0)
+first-start p o R zero l h t = absurd (omega arith)
+first-start p o R (suc q) l h t = (omega arith, omega (arith, total-tableRows p o R 0 q h))
+
+pub found-valid : (p : Pool) → ValidPool p → 1 ≤ p .devices → (x : ℕ) → x < p .range
+    → ownerFound (p .starts) (p .owners) (clamped (p .intervals)) x ≡ ownerAt (stateOf p .table) x
+unfolding stateOf
+found-valid p v h x l =
+    let c = valid-covered p v h in
+    let m = valid-limited p v in
+    let f = first-start (p .starts) (p .owners) (p .range) (p .intervals) (m .some) (c .coalesced) (c .covers) in
+    let e : clamped (p .intervals) ≡ p .intervals = omega (arith, m .fits, m .roomMost) in
+    rw e (ownerFound-table (p .starts) (p .owners) (p .range) (p .intervals) x (f .0) (c .coalesced) (f .1) l)
+
+probe-valid : (p : Pool) → ValidPool p → 1 ≤ p .devices → (block : ℕ)
+    → ownerOf (p .starts) (p .owners) (p .intervals) (min (p .range) maxRange) block ≡ (λ t. ownerAt (stateOf p .table) (pointOf block t (p .range)))
+probe-valid p v h block =
+    let m = valid-limited p v in
+    let e : min (p .range) maxRange ≡ p .range = omega (arith, m .most) in
+    rw e (fun-ext (λ t. found-valid p v h (pointOf block t (p .range)) (pointOf-below block t (p .range) (m .some))))
+
+pub looked-in : (p : Pool) (x : ℕ) (r : OwnerAnswer) → LookedIn (p .starts) (p .owners) (p .intervals) (p .devices) (p .range) x r → Looked p x r
+looked-in p x r k = record {
+  number = k .found .number;
+  valid = λ v. record { number = k .found .number; owner = k .found .owner ∙ same v (leb (p .range) x) (eqb (p .devices) 0) refl refl };
+  kind = k .kind;
+}
+  where
+    same : ValidPool p → (a b : Bool) → leb (p .range) x ≡ a → eqb (p .devices) 0 ≡ b
+        → cond a 0 (cond b 0 (ownerFound (p .starts) (p .owners) (clamped (p .intervals)) x)) ≡ cond a 0 (cond b 0 (ownerAt (stateOf p .table) x))
+    same v true b e f = refl
+    same v false true e f = refl
+    same v false false e f = found-valid p v (omega (arith, eqb-false (p .devices) 0 f)) x (leb-false (p .range) x e)
+
+pub copied-in : (p : Pool) (block k : ℕ) (c : Counters) (r : CopiesAnswer)
+    → CopiedIn (p .starts) (p .owners) (p .intervals) (p .devices) (p .range) block k c r → Copied p block k c r
+copied-in p block k c r a = record {
+  valid = λ v. subst (λ (u : Outcome). Answered u c r) (same v (p .devices) refl) (a .found);
+  any = a .found;
+}
+  where
+    -- without a device the owners don't count
+    same : ValidPool p → (n : ℕ) → p .devices ≡ n
+        → copiesOf (ownerOf (p .starts) (p .owners) (p .intervals) (min (p .range) maxRange) block) (p .devices) k
+        ≡ copiesOf (λ t. ownerAt (stateOf p .table) (pointOf block t (p .range))) (p .devices) k
+    same v zero e = rw e
+    same v (suc n) e = ap (λ o. copiesOf o (p .devices) k) (probe-valid p v (omega arith) block)

@@ -1,0 +1,113 @@
+-- `lookups::copies_in` meets its contract: 11, then 10, then the walk, which ends in 12 or in the owners.
+use mathlib.Core.Path.{_≡_, refl, sym, ap, _∙_, subst}
+use mathlib.Core.Logic.{⊎-elim}
+use Prim.Native.Nat.{ℕ, min}
+use native.Mathlib.Omega.{arith}
+use borrow.Author.Needs.{needs}
+use borrow.Author.Tests.{lt-ltb, le-ltb}
+use Rattle.lookup_core.specs.Walks.{ownerOf, Walked}
+use Rattle.slicing.specs.Limits.{maxRange}
+use Rattle.lookups.proofs.CopyAnswers.{refuses-eleven, refuses-ten, refuses-twelve, accepts}
+use Rattle.lookups.specs.declared.Counters.{Counters}
+use Rattle.lookups.proofs.copies_in.Statement.{statement}
+use Rattle.lookups.proofs.copies_in.Tie as tie
+
+refused-requires : tie.Need-refused-requires
+refused-requires c κs = search needs
+
+returns : tie.Need-returns
+returns c =
+    let a = c .before .before .args in
+    record { found = refuses-eleven _ (a .devices) (a .k) (a .counters) (c .refused .result) (rw (lt-ltb (a .k) 1 (c .before .if1 .taken))) (c .refused .ensures) }
+
+refused-requires-2 : tie.Need-refused-requires-2
+refused-requires-2 c κs = search needs
+
+returns-2 : tie.Need-returns-2
+returns-2 c =
+    let a = c .before .before .before .args in
+    let t = c .before in
+    record {
+      found = refuses-eleven _ (a .devices) (a .k) (a .counters) (c .refused2 .result)
+          (rw (le-ltb (a .k) 1 (t .before .if1 .left), lt-ltb 8 (a .k) (t .if2 .taken))) (c .refused2 .ensures);
+    }
+
+refused-requires-3 : tie.Need-refused-requires-3
+refused-requires-3 c κs = search needs
+
+returns-3 : tie.Need-returns-3
+returns-3 c =
+    let a = c .before .before .before .before .args in
+    let t = c .before in
+    record {
+      found = refuses-ten _ (a .devices) (a .k) (a .counters) (c .refused3 .result)
+          (t .before .before .if1 .left) (t .before .if2 .left) (t .if3 .taken) (c .refused3 .ensures);
+    }
+
+-- the range that is walked
+capped : (c : tie.Joined4) → c .if4 .most ≡ min (c .before .before .before .before .args .range) maxRange
+capped c = ⊎-elim (λ w. omega (arith, w .0 .taken, w .1)) (λ w. omega (arith, w .0 .left, w .1)) (c .if4 .came)
+
+walk-probes-requires : tie.Need-walk-probes-requires
+walk-probes-requires c κs =
+    (c .before .before .before .if1 .left, c .before .before .if2 .left, omega (arith, capped c))
+
+refused-requires-4 : tie.Need-refused-requires-4
+refused-requires-4 c κs = search needs
+
+walked : (c : tie.After-walk-probes) →
+    let a = c .before .before .before .before .before .args in
+    Walked (a .starts .now) (a .owners .now) (a .intervals) (min (a .range) maxRange) (a .block) (a .k) (c .walk-probes .result)
+walked c =
+    let a = c .before .before .before .before .before .args in
+    subst (λ m. Walked (a .starts .now) (a .owners .now) (a .intervals) m (a .block) (a .k) (c .walk-probes .result)) (capped (c .before))
+    (c .walk-probes .ensures)
+
+returns-4 : tie.Need-returns-4
+returns-4 c =
+    let a = c .before .before .before .before .before .before .before .before .args in
+    let w = c .before .before .before in
+    let n = w .before .before in
+    refuses-twelve (a .starts .now) (a .owners .now) (a .intervals) (a .devices) (a .range) (a .block) (a .k) (a .counters)
+    (w .walk-probes .result) (c .refused4 .result)
+    (n .before .before .if1 .left) (n .before .if2 .left) (n .if3 .left) (walked w) (c .before .if5 .taken) (c .refused4 .ensures)
+
+raised-requires : tie.Need-raised-requires
+raised-requires c κs = search needs
+
+raised-requires-2 : tie.Need-raised-requires-2
+raised-requires-2 c κs = search needs
+
+abbrev Equal : Counters → Counters → Type 0
+Equal a b = a ≡ b
+
+returns-5 : tie.Need-returns-5
+returns-5 c =
+    let a = c .before .before .before .before .before .before .before .before .before .before .args in
+    let e = c .before .before .before in
+    let w = e .before .before in
+    let n = w .before .before in
+    accepts (a .starts .now) (a .owners .now) (a .intervals) (a .devices) (a .range) (a .block) (a .k) (a .counters)
+    (w .walk-probes .result) _
+    (n .before .before .if1 .left) (n .before .if2 .left) (n .if3 .left) (walked w) (e .if5 .left)
+    (refl, refl, refl, same (c .before .raised .ensures) (c .raised2 .ensures))
+  where
+    same : {x y u v : ℕ} → x ≡ u → y ≡ v → Equal (record { lookups = x; probes = y }) (record { lookups = u; probes = v })
+    same e f = rw (e, f)
+
+pub copies-in-spec : {M : Type 1} → statement M
+copies-in-spec =
+    tie.close
+    (tie.spec
+    refused-requires
+    returns
+    refused-requires-2
+    returns-2
+    refused-requires-3
+    returns-3
+    walk-probes-requires
+    refused-requires-4
+    returns-4
+    raised-requires
+    raised-requires-2
+    returns-5)

@@ -1,0 +1,4 @@
+pub mod Counting
+pub mod Copies
+pub mod Promises
+pub mod CounterLists

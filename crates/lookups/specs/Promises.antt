@@ -1,0 +1,89 @@
+-- What the offered lookups promise.
+--
+--   Located block t R r       r answers the call for the point of a probe
+--   LookedIn .., Looked p x r     r answers the call for the owner of a point, on arrays and on a pool
+--   CopiedIn .., Copied p ..      r answers the call for copies, on arrays and on a pool
+use mathlib.Core.Path.{_≡_}
+use mathlib.Core.Bool.{Bool, cond, _||_}
+use mathlib.Core.List.{List}
+use Prim.Native.Nat.{ℕ, _<_, min}
+use lib.Dec.{eqb, leb, ltb}
+use Rattle.lookup_core.specs.Halving.{ownerFound, clamped}
+use Rattle.lookup_core.specs.Probes.{pointOf}
+use Rattle.lookup_core.specs.Walks.{ownerOf}
+use Rattle.placement.specs.Pools.{stateOf, ValidPool}
+use Rattle.placement.specs.declared.Pool.{Pool}
+use Rattle.slicing.specs.Limits.{maxRange, outside}
+use Rattle.slicing.specs.Runs.{ownerAt}
+use Rattle.lookups.specs.Copies.{Outcome, copiesOf}
+use Rattle.lookups.specs.Counting.{counted}
+use Rattle.lookups.specs.declared.CopiesAnswer.{CopiesAnswer}
+use Rattle.lookups.specs.declared.Counters.{Counters}
+use Rattle.lookups.specs.declared.OwnerAnswer.{OwnerAnswer}
+use Rattle.lookups.specs.declared.OwnerAnswer.the-variants.{Owner, Refused}
+use Rattle.lookups.specs.declared.PointAnswer.{PointAnswer}
+use Rattle.lookups.specs.declared.PointAnswer.the-variants as PointAnswer
+
+-- ---- the point of a probe
+
+abbrev pub pointNumber : PointAnswer → ℕ
+pointNumber (PointAnswer.Point x) = 0
+pointNumber (PointAnswer.Refused n) = n
+
+abbrev pub pointValue : PointAnswer → ℕ
+pointValue (PointAnswer.Point x) = x
+pointValue (PointAnswer.Refused n) = 0
+
+-- 'Try t (0 to 255)', R within its limits; else 2
+abbrev pub strange : ℕ → ℕ → Bool
+strange t R = ltb 255 t || outside maxRange R
+
+pub record Located (block t R : ℕ) (r : PointAnswer) : Type 0 where
+  pub number : pointNumber r ≡ cond (strange t R) 2 0
+  pub point : pointValue r ≡ cond (strange t R) 0 (pointOf block t R)
+
+-- ---- the owner of a point
+
+abbrev pub ownerNumber : OwnerAnswer → ℕ
+ownerNumber (Owner d) = 0
+ownerNumber (Refused n) = n
+
+abbrev pub ownerValue : OwnerAnswer → ℕ
+ownerValue (Owner d) = d
+ownerValue (Refused n) = 0
+
+-- '13: point at or above R', then '10: no device'
+abbrev pub ownerRefusal : ℕ → ℕ → ℕ → ℕ
+ownerRefusal R n x = cond (leb R x) 13 (cond (eqb n 0) 10 0)
+
+-- with the owner d where nothing refuses
+pub record OwnerIs (R n x d : ℕ) (r : OwnerAnswer) : Type 0 where
+  pub number : ownerNumber r ≡ ownerRefusal R n x
+  pub owner : ownerValue r ≡ cond (leb R x) 0 (cond (eqb n 0) 0 d)
+
+pub record LookedIn (s o : List ℕ) (q n R x : ℕ) (r : OwnerAnswer) : Type 0 where
+  pub found : OwnerIs R n x (ownerFound s o (clamped q) x) r
+  pub kind : ownerValue r < 65536
+
+-- 'A plain call gives the owner of a point': of a valid pool, by the rules' table; of any other some number of an id's size
+pub record Looked (p : Pool) (x : ℕ) (r : OwnerAnswer) : Type 0 where
+  pub number : ownerNumber r ≡ ownerRefusal (p .range) (p .devices) x
+  pub valid : ValidPool p → OwnerIs (p .range) (p .devices) x (ownerAt (stateOf p .table) x) r
+  pub kind : ownerValue r < 65536
+
+-- ---- copies
+
+-- the answer that an outcome asks, with the counters c before
+pub record Answered (u : Outcome) (c : Counters) (r : CopiesAnswer) : Type 0 where
+  pub number : r .refusal ≡ u .number
+  pub owners : r .owners ≡ u .owners
+  pub probes : r .probes ≡ u .probes
+  pub counters : r .counters ≡ cond (eqb (u .number) 0) (counted c (u .probes)) c
+
+pub record CopiedIn (s o : List ℕ) (q n R block k : ℕ) (c : Counters) (r : CopiesAnswer) : Type 0 where
+  pub found : Answered (copiesOf (ownerOf s o q (min R maxRange) block) n k) c r
+
+-- of a valid pool the rules' outcome, by its table; of any other that of the owners that halving finds
+pub record Copied (p : Pool) (block k : ℕ) (c : Counters) (r : CopiesAnswer) : Type 0 where
+  pub valid : ValidPool p → Answered (copiesOf (λ t. ownerAt (stateOf p .table) (pointOf block t (p .range))) (p .devices) k) c r
+  pub any : Answered (copiesOf (ownerOf (p .starts) (p .owners) (p .intervals) (min (p .range) maxRange) block) (p .devices) k) c r

@@ -1,0 +1,215 @@
+// The offered lookups: the owner of a point, the point of a probe, the copies of a block. A lookup does
+// not test the pool: its refusals are the same for every pool value, its owners are the rules' for
+// every valid pool, and for any other it still answers. A lookup takes the pool by reference; the work
+// is done on its lent arrays.
+use lookup_core::owner_found;
+use lookup_core::probe_point;
+use lookup_core::walk_probes;
+use placement::Pool;
+ghost use mathlib.Core.Path.{_≡_};
+ghost use Prim.Native.Nat.{_+_, min};
+ghost use lib.ListN.{replicate};
+ghost use Rattle.lookups.specs.Promises.{Located, Looked, LookedIn, Copied, CopiedIn};
+ghost use Rattle.lookups.specs.Counting.{most};
+
+// The answer of a call for the owner of a point.
+pub enum OwnerAnswer {
+    Owner(u64),
+    Refused(u32),
+}
+
+// The answer of a call for the point of a probe.
+pub enum PointAnswer {
+    Point(u64),
+    Refused(u32),
+}
+
+// Accepted lookups of copies and their probes (document 01's tally). Both stay at 4,294,967,295.
+pub struct Counters {
+    pub lookups: u32,
+    pub probes: u32,
+}
+
+impl Counters {
+    // Fresh counters are zeros.
+    pub fn new() -> Self
+        ensures { λ r. ⌜ (r .lookups ≡ 0) × (r .probes ≡ 0) ⌝ }
+    {
+        Self {
+            lookups: 0,
+            probes: 0,
+        }
+    }
+}
+
+// The answer of a call for copies: the refusal number or 0, the owners in the order chosen and then
+// zeros, the probes made, and the counters afterwards.
+pub struct CopiesAnswer {
+    pub refusal: u32,
+    pub owners: [u16; 8],
+    pub probes: u32,
+    pub counters: Counters,
+}
+
+// The point of a probe (document 01's try). 2 where the probe is above 255 or the range not within 1 to
+// 4,294,967,296.
+pub fn point(block: u64, probe: u64, range: u64) -> PointAnswer
+    ensures { λ r. ⌜ Located block probe range r ⌝ }
+{
+    if probe > 255 {
+        return PointAnswer::Refused(2);
+    }
+    if range < 1 {
+        return PointAnswer::Refused(2);
+    }
+    if range > 4294967296 {
+        return PointAnswer::Refused(2);
+    }
+    PointAnswer::Point(probe_point(block, probe as u32, range))
+}
+
+// x + y, but no more than 4,294,967,295.
+fn raised(x: u32, y: u32) -> u32
+    ensures { λ r. ⌜ r ≡ min (x + y) most ⌝ }
+{
+    if x <= u32::MAX - y { x + y } else { u32::MAX }
+}
+
+// The owner of a point, on the lent arrays of a pool: for callers that make many lookups.
+pub fn owner_in<'a>(
+    starts: &'a [u32; 4096],
+    owners: &'a [u16; 4096],
+    intervals: usize,
+    devices: usize,
+    range: u64,
+    point: u64,
+) -> OwnerAnswer
+    ensures { λ r. ⌜ LookedIn (now (starts .entry)) (now (owners .entry)) intervals devices range point r ⌝ }
+{
+    if point >= range {
+        return OwnerAnswer::Refused(13);
+    }
+    if devices == 0 {
+        return OwnerAnswer::Refused(10);
+    }
+    OwnerAnswer::Owner(owner_found(starts, owners, intervals, point))
+}
+
+fn refused(refusal: u32, probes: u32, counters: Counters) -> CopiesAnswer
+    ensures { λ r. ⌜ (r .refusal ≡ refusal) × (r .owners ≡ replicate 8 0) × (r .probes ≡ probes) × (r .counters ≡ counters) ⌝ }
+{
+    CopiesAnswer {
+        refusal: refusal,
+        owners: [0; 8],
+        probes: probes,
+        counters: counters,
+    }
+}
+
+// The copies of a block, on the lent arrays of a pool: for callers that make many lookups.
+pub fn copies_in<'a>(
+    starts: &'a [u32; 4096],
+    owners: &'a [u16; 4096],
+    intervals: usize,
+    devices: usize,
+    range: u64,
+    block: u64,
+    k: u64,
+    counters: Counters,
+) -> CopiesAnswer
+    ensures { λ r. ⌜ CopiedIn (now (starts .entry)) (now (owners .entry)) intervals devices range block k counters r ⌝ }
+{
+    if k < 1 {
+        return refused(11, 0, counters);
+    }
+    if k > 8 {
+        return refused(11, 0, counters);
+    }
+    if devices == 0 {
+        return refused(10, 0, counters);
+    }
+    let mut most = range;
+    if range > 4294967296 {
+        most = 4294967296;
+    }
+    let walk = walk_probes(starts, owners, intervals, most, block, k as usize);
+    if walk.found < k as usize {
+        return refused(12, 256, counters);
+    }
+    let list = walk.owners;
+    let after = Counters {
+        lookups: raised(counters.lookups, 1),
+        probes: raised(counters.probes, walk.probes),
+    };
+    CopiesAnswer {
+        refusal: 0,
+        owners: list,
+        probes: walk.probes,
+        counters: after,
+    }
+}
+
+// The owner of a point. 13 where it is at or above the range, then 10 where no device is present.
+pub fn owner(pool: &Pool, point: u64) -> OwnerAnswer
+    ensures { λ r. ⌜ Looked (now (pool .entry)) point r ⌝ }
+{
+    owner_in(
+        &pool.starts,
+        &pool.owners,
+        pool.intervals,
+        pool.devices,
+        pool.range,
+        point,
+    )
+}
+
+// The k devices that hold the copies of a block. 11 where k is not within 1 to 8; 10 where no device is
+// present; 12, with 256 probes, where 256 probes find fewer than k different owners.
+pub fn copies(pool: &Pool, block: u64, k: u64, counters: Counters) -> CopiesAnswer
+    ensures { λ r. ⌜ Copied (now (pool .entry)) block k counters r ⌝ }
+{
+    copies_in(
+        &pool.starts,
+        &pool.owners,
+        pool.intervals,
+        pool.devices,
+        pool.range,
+        block,
+        k,
+        counters,
+    )
+}
+
+// The owner of a point, of a pool by value: for callers that make one lookup.
+pub fn owner_of(pool: Pool, point: u64) -> OwnerAnswer
+    ensures { λ r. ⌜ Looked pool point r ⌝ }
+{
+    let starts = pool.starts;
+    let owners = pool.owners;
+    owner_in(
+        &starts,
+        &owners,
+        pool.intervals,
+        pool.devices,
+        pool.range,
+        point,
+    )
+}
+
+// The copies of a block, of a pool by value: for callers that make one lookup.
+pub fn copies_of(pool: Pool, block: u64, k: u64, counters: Counters) -> CopiesAnswer
+    ensures { λ r. ⌜ Copied pool block k counters r ⌝ }
+{
+    let starts = pool.starts;
+    let owners = pool.owners;
+    copies_in(
+        &starts,
+        &owners,
+        pool.intervals,
+        pool.devices,
+        pool.range,
+        block,
+        k,
+        counters,
+    )
+}
