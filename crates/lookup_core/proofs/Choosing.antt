@@ -10,12 +10,12 @@ use mathlib.Core.List.{List, [], _∷_, _++_}
 use Prim.Native.Nat.{ℕ, zero, suc, _+_, _-_, _≤_, _<_}
 use native.Mathlib.Omega.{arith}
 use lib.Dec.{eqb, leb}
-use lib.ListN.{length, take, length-append, length-take}
+use lib.ListN.{length, take, length-append}
 use lib.Seq.{take-all, take-append-le, take-take}
-use borrow.Author.Tests.{leb-true, leb-false, eqb-true, eqb-false, eq-eqb}
+use borrow.Author.Tests.{leb-true, leb-false, eqb-true}
 use Rattle.slicing.specs.Runs.{one, count}
 use Rattle.slicing.proofs.Counting.{Distinct, count-append}
-use Rattle.lookup_core.specs.Probes.{member, Chosen, chooseFrom, choose, maxProbes}
+use Rattle.lookup_core.specs.Probes.{member, chooseFrom, choose, maxProbes}
 
 -- an owner not met yet comes behind those met
 abbrev pub met : ℕ → List ℕ → List ℕ

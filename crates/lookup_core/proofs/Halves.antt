@@ -5,13 +5,12 @@
 -- tables: starts-rise, ownerAt-place, ownerFound-table
 use mathlib.Core.Path.{_≡_, refl, sym, ap, _∙_}
 use mathlib.Core.Bool.{Bool, true, false, cond}
-use mathlib.Core.List.{List, [], _∷_}
+use mathlib.Core.List.{List}
 use Prim.Native.Nat.{ℕ, zero, suc, _+_, _-_, _/_, _≤_, _<_}
 use native.Mathlib.Omega.{arith}
 use lib.Dec.{eqb, leb, ltb}
-use lib.ListN.{length}
 use borrow.Author.Tests.{ltb-true, ltb-false, leb-true, leb-false, lt-ltb, le-ltb, eqb-true, eqb-false, ne-eqb}
-use Rattle.slicing.specs.Runs.{Run, _of_, total, ownerAt, Coalesced}
+use Rattle.slicing.specs.Runs.{ownerAt, Coalesced}
 use Rattle.slicing_core.specs.Rows.{at, tableRows}
 use Rattle.lookup_core.specs.Halving.{halve, ownerFound}
 

@@ -1,9 +1,8 @@
 -- Points of probes lie in the range. Nothing is assumed of the hash but that its words have 32 bits.
 --
 -- Laws: H-word, digest-word, scaled-below, pointOf-below.
-use mathlib.Core.Path.{_≡_}
 use mathlib.Core.List.{List, _++_}
-use Prim.Native.Nat.{ℕ, zero, suc, _+_, _*_, _/_, _≤_, _<_}
+use Prim.Native.Nat.{ℕ, zero, suc, _+_, _*_, _≤_, _<_}
 use native.Mathlib.Omega.{arith}
 use native.Mathlib.Nat.{div-add-mod, mul-lt-mul-of-pos-right, lt-of-mul-lt-mul-left}
 use lib.ListN.{getD}

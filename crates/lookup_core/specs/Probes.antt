@@ -5,7 +5,7 @@
 --   Chosen                the owners chosen, in order, and the probes made
 --   chooseFrom ..         the walk from a probe on
 --   choose o k            the walk for k copies; o t owns the point of probe t
-use mathlib.Core.Bool.{Bool, true, false, cond, _||_}
+use mathlib.Core.Bool.{Bool, false, cond, _||_}
 use mathlib.Core.List.{List, [], _∷_, _++_}
 use Prim.Native.Nat.{ℕ, zero, suc, _*_, _/_}
 use lib.Dec.{eqb, leb}

@@ -2,9 +2,9 @@
 --
 -- Refusing (what a refusal shows); refuses-eleven, refuses-ten, refuses-twelve; Accepting, accepts
 use mathlib.Core.Path.{_≡_, refl, sym, ap, _∙_, subst}
-use mathlib.Core.Bool.{Bool, true, false, cond}
+use mathlib.Core.Bool.{true, false}
 use mathlib.Core.List.{List}
-use Prim.Native.Nat.{ℕ, _+_, _≤_, _<_, min}
+use Prim.Native.Nat.{ℕ, _≤_, _<_, min}
 use native.Mathlib.Omega.{arith}
 use lib.Dec.{eqb, ltb}
 use lib.ListN.{length, replicate}
@@ -14,7 +14,7 @@ use Rattle.lookup_core.specs.Walks.{ownerOf, Walked}
 use Rattle.lookup_core.specs.declared.Walk.{Walk}
 use Rattle.slicing.specs.Limits.{maxRange, outside}
 use Rattle.lookups.specs.Copies.{Outcome, copiesOf, refusal}
-use Rattle.lookups.specs.Counting.{counted, most}
+use Rattle.lookups.specs.Counting.{counted}
 use Rattle.lookups.specs.Promises.{Answered, CopiedIn}
 use Rattle.lookups.specs.declared.CopiesAnswer.{CopiesAnswer}
 use Rattle.lookups.specs.declared.Counters.{Counters}

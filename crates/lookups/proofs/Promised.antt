@@ -1,14 +1,13 @@
 -- From what is promised on lent arrays to what is promised on a pool.
 --
 -- found-valid (the owner that halving finds in a valid pool is the table's), probe-valid (and of a probe); looked-in, copied-in
-use mathlib.Core.Path.{_≡_, refl, sym, ap, _∙_, subst, fun-ext}
+use mathlib.Core.Path.{_≡_, refl, ap, _∙_, subst, fun-ext}
 use mathlib.Core.Bool.{Bool, true, false, cond}
 use mathlib.Core.List.{List}
-use Prim.Native.Nat.{ℕ, zero, suc, _+_, _≤_, _<_, min}
+use Prim.Native.Nat.{ℕ, zero, suc, _≤_, _<_, min}
 use native.Mathlib.Omega.{arith}
 use lib.Dec.{eqb, leb}
-use lib.ListN.{length}
-use borrow.Author.Tests.{leb-true, leb-false, eqb-true, eqb-false}
+use borrow.Author.Tests.{leb-false, eqb-false}
 use Rattle.lookup_core.specs.Halving.{ownerFound, clamped}
 use Rattle.lookup_core.specs.Probes.{pointOf}
 use Rattle.lookup_core.specs.Walks.{ownerOf}
@@ -22,7 +21,7 @@ use Rattle.slicing.specs.Limits.{maxRange}
 use Rattle.slicing.specs.Runs.{total, ownerAt, Coalesced}
 use Rattle.slicing_core.specs.Rows.{at, tableRows}
 use Rattle.lookups.specs.Copies.{Outcome, copiesOf}
-use Rattle.lookups.specs.Promises.{OwnerIs, LookedIn, Looked, Answered, CopiedIn, Copied, ownerRefusal}
+use Rattle.lookups.specs.Promises.{LookedIn, Looked, Answered, CopiedIn, Copied}
 use Rattle.lookups.specs.declared.CopiesAnswer.{CopiesAnswer}
 use Rattle.lookups.specs.declared.Counters.{Counters}
 use Rattle.lookups.specs.declared.OwnerAnswer.{OwnerAnswer}

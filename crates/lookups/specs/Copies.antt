@@ -3,7 +3,7 @@
 --
 --   Outcome           the refusal number or 0, eight places, the probes made
 --   copiesOf o n k    the outcome for k copies where n devices are present and o t owns the point of probe t
-use mathlib.Core.Bool.{Bool, cond}
+use mathlib.Core.Bool.{cond}
 use mathlib.Core.List.{List, _++_}
 use Prim.Native.Nat.{ℕ, _-_}
 use lib.Dec.{eqb, ltb}

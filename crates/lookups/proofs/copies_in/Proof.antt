@@ -1,11 +1,11 @@
 -- `lookups::copies_in` meets its contract: 11, then 10, then the walk, which ends in 12 or in the owners.
-use mathlib.Core.Path.{_≡_, refl, sym, ap, _∙_, subst}
+use mathlib.Core.Path.{_≡_, refl, subst}
 use mathlib.Core.Logic.{⊎-elim}
 use Prim.Native.Nat.{ℕ, min}
 use native.Mathlib.Omega.{arith}
 use borrow.Author.Needs.{needs}
 use borrow.Author.Tests.{lt-ltb, le-ltb}
-use Rattle.lookup_core.specs.Walks.{ownerOf, Walked}
+use Rattle.lookup_core.specs.Walks.{Walked}
 use Rattle.slicing.specs.Limits.{maxRange}
 use Rattle.lookups.proofs.CopyAnswers.{refuses-eleven, refuses-ten, refuses-twelve, accepts}
 use Rattle.lookups.specs.declared.Counters.{Counters}

@@ -1,5 +1,4 @@
 -- `lookups::owner_in` meets its contract: 13 before 10, then the owner that halving finds.
-use mathlib.Core.Path.{refl}
 use native.Mathlib.Omega.{arith}
 use borrow.Author.Needs.{needs}
 use borrow.Author.Tests.{le-leb, lt-leb, eq-eqb, ne-eqb}
