@@ -25,6 +25,7 @@ use Rattle.lookups.specs.Promises.{LookedIn, Looked, Answered, CopiedIn,
 use Rattle.lookups.specs.declared.CopiesAnswer.{CopiesAnswer}
 use Rattle.lookups.specs.declared.Counters.{Counters}
 use Rattle.lookups.specs.declared.OwnerAnswer.{OwnerAnswer}
+use Rattle.lookups.specs.declared.OwnerAnswer.the-variants.{Owner, Refused}
 
 -- a table that covers a range has an interval, and its first begins at 0
 first-start : (p o : List ℕ) (R q : ℕ) → 1 ≤ R → Coalesced eqb (tableRows p o R 0 q) → total (tableRows p o R 0 q) ≡ R → (1 ≤ q) × (at p 0 ≡ 0)
@@ -49,17 +50,14 @@ probe-valid p v h block =
     rw e (fun-ext (λ t. found-valid p v h (pointOf block t (p .range)) (pointOf-below block t (p .range) (m .some))))
 
 pub looked-in : (p : Pool) (x : ℕ) (r : OwnerAnswer) → LookedIn (p .starts) (p .owners) (p .intervals) (p .devices) (p .range) x r → Looked p x r
-looked-in p x r k = record {
-  number = k .found .number;
-  valid = λ v. record { number = k .found .number; owner = k .found .owner ∙ same v (leb (p .range) x) (eqb (p .devices) 0) refl refl };
-  kind = k .kind;
-}
+looked-in p x r k = record { valid = λ v. k ∙ same v (leb (p .range) x) (eqb (p .devices) 0) refl refl; any = k }
   where
     same : ValidPool p → (a b : Bool) → leb (p .range) x ≡ a → eqb (p .devices) 0 ≡ b
-        → cond a 0 (cond b 0 (ownerFound (p .starts) (p .owners) (clamped (p .intervals)) x)) ≡ cond a 0 (cond b 0 (ownerAt (stateOf p .table) x))
+        → cond a (Refused 13) (cond b (Refused 10) (Owner (ownerFound (p .starts) (p .owners) (clamped (p .intervals)) x)))
+        ≡ cond a (Refused 13) (cond b (Refused 10) (Owner (ownerAt (stateOf p .table) x)))
     same v true b e f = refl
     same v false true e f = refl
-    same v false false e f = found-valid p v (omega (arith, eqb-false (p .devices) 0 f)) x (leb-false (p .range) x e)
+    same v false false e f = ap Owner (found-valid p v (omega (arith, eqb-false (p .devices) 0 f)) x (leb-false (p .range) x e))
 
 pub copied-in : (p : Pool) (block k : ℕ) (c : Counters) (r : CopiesAnswer)
     → CopiedIn (p .starts) (p .owners) (p .intervals) (p .devices) (p .range) block k c r → Copied p block k c r

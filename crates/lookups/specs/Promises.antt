@@ -6,7 +6,7 @@
 use mathlib.Core.Path.{_≡_}
 use mathlib.Core.Bool.{Bool, cond, _||_}
 use mathlib.Core.List.{List}
-use Prim.Native.Nat.{ℕ, _<_, min}
+use Prim.Native.Nat.{ℕ, min}
 use lib.Dec.{eqb, leb, ltb}
 use Rattle.lookup_core.specs.Halving.{ownerFound, clamped}
 use Rattle.lookup_core.specs.Probes.{pointOf}
@@ -26,50 +26,26 @@ use Rattle.lookups.specs.declared.PointAnswer.the-variants as PointAnswe
 
 -- ---- the point of a probe
 
-abbrev pub pointNumber : PointAnswer → ℕ
-pointNumber (PointAnswer.Point x) = 0
-pointNumber (PointAnswer.Refused n) = n
-
-abbrev pub pointValue : PointAnswer → ℕ
-pointValue (PointAnswer.Point x) = x
-pointValue (PointAnswer.Refused n) = 0
-
 -- 'Try t (0 to 255)', R within its limits; else 2
 abbrev pub strange : ℕ → ℕ → Bool
 strange t R = ltb 255 t || outside maxRange R
 
-pub record Located (block t R : ℕ) (r : PointAnswer) : Type 0 where
-  pub number : pointNumber r ≡ cond (strange t R) 2 0
-  pub point : pointValue r ≡ cond (strange t R) 0 (pointOf block t R)
+abbrev pub Located : ℕ → ℕ → ℕ → PointAnswer → Type 0
+Located block t R r = r ≡ cond (strange t R) (PointAnswer.Refused 2) (PointAnswer.Point (pointOf block t R))
 
 -- ---- the owner of a point
 
-abbrev pub ownerNumber : OwnerAnswer → ℕ
-ownerNumber (Owner d) = 0
-ownerNumber (Refused n) = n
+-- '13: point at or above R', then '10: no device', else the owner d
+abbrev pub ownerAnswer : ℕ → ℕ → ℕ → ℕ → OwnerAnswer
+ownerAnswer R n x d = cond (leb R x) (Refused 13) (cond (eqb n 0) (Refused 10) (Owner d))
 
-abbrev pub ownerValue : OwnerAnswer → ℕ
-ownerValue (Owner d) = d
-ownerValue (Refused n) = 0
+abbrev pub LookedIn : List ℕ → List ℕ → ℕ → ℕ → ℕ → ℕ → OwnerAnswer → Type 0
+LookedIn s o q n R x r = r ≡ ownerAnswer R n x (ownerFound s o (clamped q) x)
 
--- '13: point at or above R', then '10: no device'
-abbrev pub ownerRefusal : ℕ → ℕ → ℕ → ℕ
-ownerRefusal R n x = cond (leb R x) 13 (cond (eqb n 0) 10 0)
-
--- with the owner d where nothing refuses
-pub record OwnerIs (R n x d : ℕ) (r : OwnerAnswer) : Type 0 where
-  pub number : ownerNumber r ≡ ownerRefusal R n x
-  pub owner : ownerValue r ≡ cond (leb R x) 0 (cond (eqb n 0) 0 d)
-
-pub record LookedIn (s o : List ℕ) (q n R x : ℕ) (r : OwnerAnswer) : Type 0 where
-  pub found : OwnerIs R n x (ownerFound s o (clamped q) x) r
-  pub kind : ownerValue r < 65536
-
--- 'A plain call gives the owner of a point': of a valid pool, by the rules' table; of any other some number of an id's size
+-- 'A plain call gives the owner of a point': of a valid pool, by the rules' table; of any other, the owner that halving finds
 pub record Looked (p : Pool) (x : ℕ) (r : OwnerAnswer) : Type 0 where
-  pub number : ownerNumber r ≡ ownerRefusal (p .range) (p .devices) x
-  pub valid : ValidPool p → OwnerIs (p .range) (p .devices) x (ownerAt (stateOf p .table) x) r
-  pub kind : ownerValue r < 65536
+  pub valid : ValidPool p → r ≡ ownerAnswer (p .range) (p .devices) x (ownerAt (stateOf p .table) x)
+  pub any : LookedIn (p .starts) (p .owners) (p .intervals) (p .devices) (p .range) x r
 
 -- ---- copies
 

@@ -1,7 +1,7 @@
 -- Laws of the answer to the call for a share.
 --
 -- Shared: shared-invalid, shared-outside, shared-absent, shared-present
-use mathlib.Core.Path.{_≡_, refl}
+use mathlib.Core.Path.{_≡_, refl, ap, _∙_}
 use mathlib.Core.Bool.{true, false}
 use mathlib.Core.List.{List}
 use Prim.Native.Nat.{ℕ, _<_}
@@ -19,23 +19,20 @@ use Rattle.placement.proofs.WidePools.{rising-wide}
 
 module _ (p : Pool) (id : ℕ) where
   pub shared-invalid : (ValidPool p → ⊥) → Shared p id (Refused 2)
-  shared-invalid h = record { number = λ v. absurd (h v); share = λ v. absurd (h v); invalid = λ k. refl }
+  shared-invalid h = record { valid = λ v. absurd (h v); invalid = λ k. refl }
 
   pub shared-outside : outside maxId id ≡ true → Shared p id (Refused 2)
-  shared-outside e = record { number = λ k. rw e; share = λ k. rw e; invalid = λ h. refl }
+  shared-outside e = record { valid = λ v. rw e; invalid = λ h. refl }
 
   module _ {d c : List ℕ} (v : ValidPool p) (i : d ≡ p .ids) (k : c ≡ p .capacities) (e : outside maxId id ≡ false) where
     pub shared-absent : present id (deviceRows d c 0 (p .devices)) ≡ false → Shared p id (Refused 5)
     unfolding stateOf
-    shared-absent a =
-        record { number = λ h. rw (e, ← i, ← k, a); share = λ h. rw (e, ← i, ← k, shareOf-none _ _ _ a); invalid = λ h. absurd (h v) }
+    shared-absent a = record { valid = λ h. rw (e, ← i, ← k, a); invalid = λ h. absurd (h v) }
 
     pub shared-present : (due : List ℕ) (row : ℕ) → row < p .devices → at d row ≡ id
         → rows due d 0 (p .devices) ≡ largestRemainder (p .range) (deviceRows d c 0 (p .devices)) → Shared p id (Share (at due row))
     unfolding stateOf
-    shared-present due row l b s = record {
-      number = λ h. rw (e, ← i, ← k, position-present d c (p .devices) id row l b);
-      share =
-          λ h. rw (e, ← i, ← k, ← b) (shareOf-row (p .range) d c due (p .devices) row s (ascending-rising d c (p .devices) (rising-wide v i k)) l);
-      invalid = λ h. absurd (h v);
-    }
+    shared-present due row l b s =
+        let here = position-present d c (p .devices) id row l b in
+        let held = shareOf-row (p .range) d c due (p .devices) row s (ascending-rising d c (p .devices) (rising-wide v i k)) l in
+        record { valid = λ h. rw (e, ← i, ← k, here) (ap Share (held ∙ rw b)); invalid = λ h. absurd (h v) }

@@ -5,8 +5,8 @@
 --   Fresh R M r             r answers the call for a fresh pool
 --   Answered ..             the values of an answer, from an outcome of the rules
 --   Changed p lent k r l    r answers the change k on the pool p, and l is the lent list afterwards
---   numberOf, shareIn       document 01's number and value of each answer to the call for a share
---   Shared p id r           r answers the call for the share of id
+--   shareAnswer s id        the answer to the call for the share of id
+--   Shared p id r           r is that answer of the pool p
 --   Planned p es places r   r is the plan of a change to the devices es, before anything is stored
 use mathlib.Core.Path.{_≡_}
 use mathlib.Core.Bool.{cond, _||_, not}
@@ -58,18 +58,15 @@ pub record Changed (p : Pool) (lent : List ℕ) (k : Change) (r : ChangeAnswer) 
   pub valid : ValidPool p → Answered lent (change (stateOf p) (movesIn lent) k) (poolOf (change (stateOf p) (movesIn lent) k .state)) r after
   pub invalid : (ValidPool p → ⊥) → Answered lent (refused (stateOf p) (movesIn lent) 2) p r after
 
-abbrev pub numberOf : ShareAnswer → ℕ
-numberOf (Share n) = 0
-numberOf (Refused n) = n
+-- 2 for an id outside its limits, 5 for an absent one, else the share
+abbrev pub shareAnswer : State → ℕ → ShareAnswer
+shareAnswer s id =
+    cond (outside maxId id) (Refused 2)
+    (cond (present id (s .devices)) (Share (shareOf (s .range) (s .devices) id))
+    (Refused 5))
 
-abbrev pub shareIn : ShareAnswer → ℕ
-shareIn (Share n) = n
-shareIn (Refused n) = 0
-
--- 2 for a pool that is not valid or an id outside its limits, 5 for an absent one, else the share
 pub record Shared (p : Pool) (id : ℕ) (r : ShareAnswer) : Type 0 where
-  pub number : ValidPool p → numberOf r ≡ cond (outside maxId id) 2 (cond (present id (stateOf p .devices)) 0 5)
-  pub share : ValidPool p → shareIn r ≡ cond (outside maxId id) 0 (shareOf (p .range) (stateOf p .devices) id)
+  pub valid : ValidPool p → r ≡ shareAnswer (stateOf p) id
   pub invalid : (ValidPool p → ⊥) → r ≡ Refused 2
 
 pub record Planned (p : Pool) (es : List Device) (places : ℕ) (r : Plan) : Type 0 where

@@ -1,28 +1,20 @@
 -- `lookups::owner_in` meets its contract: 13 before 10, then the owner that halving finds.
-use native.Mathlib.Omega.{arith}
+use mathlib.Core.Path.{ap}
 use borrow.Author.Needs.{needs}
 use borrow.Author.Tests.{le-leb, lt-leb, eq-eqb, ne-eqb}
+use Rattle.lookups.specs.declared.OwnerAnswer.the-variants.{Owner}
 use Rattle.lookups.proofs.owner_in.Statement.{statement}
 use Rattle.lookups.proofs.owner_in.Tie as tie
 
 returns : tie.Need-returns
 returns c =
     let a = c .before .args in
-    record {
-      found = record { number = rw (le-leb (a .range) (a .point) (c .if1 .taken)); owner = rw (le-leb (a .range) (a .point) (c .if1 .taken)) };
-      kind = omega arith;
-    }
+    rw (le-leb (a .range) (a .point) (c .if1 .taken))
 
 returns-2 : tie.Need-returns-2
 returns-2 c =
     let a = c .before .before .args in
-    record {
-      found = record {
-        number = rw (lt-leb (a .range) (a .point) (c .before .if1 .left), eq-eqb (a .devices) 0 (c .if2 .taken));
-        owner = rw (lt-leb (a .range) (a .point) (c .before .if1 .left), eq-eqb (a .devices) 0 (c .if2 .taken));
-      };
-      kind = omega arith;
-    }
+    rw (lt-leb (a .range) (a .point) (c .before .if1 .left), eq-eqb (a .devices) 0 (c .if2 .taken))
 
 owner-found-requires : tie.Need-owner-found-requires
 owner-found-requires c κs = search needs
@@ -31,13 +23,7 @@ returns-3 : tie.Need-returns-3
 returns-3 c =
     let h = c .before in
     let a = h .before .before .args in
-    record {
-      found = record {
-        number = rw (lt-leb (a .range) (a .point) (h .before .if1 .left), ne-eqb (a .devices) 0 (h .if2 .left));
-        owner = rw (lt-leb (a .range) (a .point) (h .before .if1 .left), ne-eqb (a .devices) 0 (h .if2 .left)) (c .owner-found .ensures .0);
-      };
-      kind = c .owner-found .ensures .1;
-    }
+    rw (lt-leb (a .range) (a .point) (h .before .if1 .left), ne-eqb (a .devices) 0 (h .if2 .left)) (ap Owner (c .owner-found .ensures .0))
 
 pub owner-in-spec : {M : Type 1} → statement M
 owner-in-spec = tie.close (tie.spec returns returns-2 owner-found-requires returns-3)
