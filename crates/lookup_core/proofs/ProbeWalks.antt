@@ -82,8 +82,10 @@ module _ (s os : List ℕ) (n R block k : ℕ) where
         let long : length zeros ≡ 8 - found = length-replicate (8 - found) 0 in
         ap length (w .written) ∙ length-append (w .owners) zeros ∙ omega arith
 
-    pub walking-end : 256 ≤ t → Walked s os n R block k (record { owners = list; found = found; probes = t })
-    walking-end h = walked _ _ _ _ (sym (w .rest) ∙ chooseFrom-end o k 256 t (w .owners) h) (w .written) (w .count) (omega arith)
+    pub walking-end : 256 ≤ t → Walked s os n R block k (record { owners = list; found = found; probes = 256 })
+    walking-end h =
+        let e : t ≡ 256 = omega (arith, w .passed) in
+        walked _ _ _ _ (rw e at (sym (w .rest) ∙ chooseFrom-end o k 256 t (w .owners) h)) (w .written) (w .count) (omega arith)
 
     module _ (d : ℕ) (e : d ≡ o t) (h : t < 256) where
       seen : {b : Bool} → member d (take found list) ≡ b → member (o t) (w .owners) ≡ b

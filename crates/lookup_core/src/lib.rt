@@ -126,6 +126,6 @@ pub fn walk_probes<'a>(
     Walk {
         owners: list,
         found: found,
-        probes: t,
+        probes: 256,
     }
 }

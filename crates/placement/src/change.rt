@@ -289,5 +289,6 @@ pub fn share(pool: Pool, id: u64) -> ShareAnswer
     }
     let row = place.row;
     let points = shares(pool.range, &ids, &capacities, n);
-    ShareAnswer::Share(points[row])
+    let due = points[row];
+    ShareAnswer::Share(due)
 }

@@ -114,7 +114,8 @@ pub fn settle(
     let sizes = turns.sizes;
     let labels = turns.labels;
     let table = new_table(&sizes, &labels, turns.count);
-    if table.count > pool.limit as usize {
+    let limit = pool.limit as usize;
+    if table.count > limit {
         return Plan {
             refusal: 8,
             moves: still(),

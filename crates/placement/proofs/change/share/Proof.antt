@@ -89,11 +89,11 @@ shares-requires c κs =
 row-below : (c : tie.Else3) → c .before .before .find .result .row < 256
 row-below c = omega (arith, found c .0, limits (wide (c .before)) .few)
 
-mul-t18 : tie.Need-mul-t18
-mul-t18 c = omega (arith, row-below (c .before .before .before))
+mul-due : tie.Need-mul-due
+mul-due c = omega (arith, row-below (c .before .before .before))
 
-array-read-t21 : tie.Need-array-read-t21
-array-read-t21 c = row-below (c .before .before .before)
+array-read-due : tie.Need-array-read-due
+array-read-due c = row-below (c .before .before .before)
 
 returns-4 : tie.Need-returns-4
 returns-4 c =
@@ -115,6 +115,6 @@ share-spec =
     find-requires
     returns-3
     shares-requires
-    mul-t18
-    array-read-t21
+    mul-due
+    array-read-due
     returns-4)

@@ -28,8 +28,8 @@ new-table-requires c κs =
       ),
     )
 
-cast-if1 : tie.Need-cast-if1
-cast-if1 c = search needs
+cast-limit : tie.Need-cast-limit
+cast-limit c = search needs
 
 still-requires : tie.Need-still-requires
 still-requires c κs = search needs
@@ -134,7 +134,7 @@ settle-spec =
     (tie.spec
     turns-of-requires
     new-table-requires
-    cast-if1
+    cast-limit
     still-requires
     returns
     moves-of-requires
