@@ -10,6 +10,7 @@ use crate::arrays::wide_starts;
 use slicing_core::moves::Moves;
 use slicing_core::moves::moves_of;
 use slicing_core::owned::by_owner;
+use slicing_core::owned::none;
 use slicing_core::quotas::quotas;
 use slicing_core::runs::Runs;
 use slicing_core::runs::empty;
@@ -65,7 +66,8 @@ fn turns_of(pool: Pool, n: usize, ids: &[u64; 256], capacities: &[u64; 256]) -> 
     let starts = wide_starts(narrow_starts);
     let owners = wide_owners(narrow_owners);
     let lengths = lengths_of(&starts, &owners, q, range);
-    let mut points = by_owner(&lengths, &owners, q);
+    let mut points = none();
+    by_owner(&mut points, &lengths, &owners, q);
     let due = shares(range, ids, capacities, n);
     let mut needs = quotas(&mut points, ids, &due, n);
     walk(&lengths, &owners, q, &mut points, &mut needs, ids, n)

@@ -10,6 +10,7 @@ use slicing_core::devices::rising;
 use slicing_core::owned::by_owner;
 use slicing_core::owned::coalesced;
 use slicing_core::owned::hold;
+use slicing_core::owned::none;
 use slicing_core::owned::sum;
 use slicing_core::shares::shares;
 ghost use mathlib.Core.Path.{_≡_};
@@ -89,7 +90,8 @@ fn covered(
     if sum(&lengths, owners, q) != range {
         return false;
     }
-    let points = by_owner(&lengths, owners, q);
+    let mut points = none();
+    by_owner(&mut points, &lengths, owners, q);
     let due = shares(range, ids, capacities, n);
     hold(&points, ids, &due, n)
 }

@@ -15,20 +15,19 @@ pub fn none() -> [u64; 65536]
     [0; 65536]
 }
 
-// The points of each owner, by id.
-pub fn by_owner(lengths: &[u64; 4096], owners: &[u64; 4096], q: usize) -> [u64; 65536]
+// The points of each owner, by id, in an array of zeros.
+pub fn by_owner(points: &mut [u64; 65536], lengths: &[u64; 4096], owners: &[u64; 4096], q: usize)
     requires { ⌜ (q ≤ 4096) × Below 65536 (now owners) q × (total (rows (now lengths) (now owners) 0 q) < 2 ^ 64) ⌝ }
-    ensures { λ r. ⌜ ((d : ℕ) → d < 65536 → at r d ≡ owned d (rows (now (lengths .entry)) (now (owners .entry)) 0 q)) ⌝ }
-    ensures { λ r. ⌜ length r ≡ 65536 ⌝ }
+    requires { ⌜ (length (now points) ≡ 65536) × ((d : ℕ) → at (now points) d ≡ 0) ⌝ }
+    ensures { λ r. ⌜ ((d : ℕ) → d < 65536 → at (now (points .exit)) d ≡ owned d (rows (now (lengths .entry)) (now (owners .entry)) 0 q)) ⌝ }
+    ensures { λ r. ⌜ length (now (points .exit)) ≡ 65536 ⌝ }
 {
-    let mut points = none();
     let mut i = 0;
     while i < q {
         let place = owners[i] as usize;
         points[place] = points[place] + lengths[i];
         i += 1;
     }
-    points
 }
 
 // The points of a table.

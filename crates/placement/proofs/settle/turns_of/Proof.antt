@@ -1,5 +1,5 @@
 -- `placement::settle::turns_of` meets its contract: its arrays are the rules' releases and needs, and the walk over them is the rules' own.
-use mathlib.Core.Path.{ap, _∙_}
+use mathlib.Core.Path.{sym, ap, _∙_}
 use native.Mathlib.Omega.{arith}
 use borrow.Author.Needs.{needs}
 use Rattle.slicing.specs.Runs.{coalesce}
@@ -24,19 +24,27 @@ lengths-of-requires c κs =
     let s = c .before .before .before .before .before .before in
     intervals-most (s .args .pool) (s .pre .0) (s .pre .1)
 
+none-requires : tie.Need-none-requires
+none-requires c κs = search needs
+
 by-owner-requires : tie.Need-by-owner-requires
 by-owner-requires c κs =
-    let w = c .before .before .before .before .before in
+    let z = c .before .before .before in
+    let l = z .before in
+    let w = l .before .before .before in
     let s = w .before .before .before .before in
-    let t = total-range (s .args .pool) (s .pre .0) (s .pre .1) _ _ _ (w .before .wide-starts .ensures) (w .wide-owners .ensures) (c .before .before .lengths-of .ensures .0) in (
-      intervals-most (s .args .pool) (s .pre .0) (s .pre .1),
-      owners-below (s .args .pool) (s .pre .0) (s .pre .1) _ _ _ (w .before .wide-starts .ensures) (w .wide-owners .ensures) (c .before .before .lengths-of .ensures .0),
-      omega (arith, t, valid-limited (s .args .pool) (s .pre .0) .most),
+    let t = total-range (s .args .pool) (s .pre .0) (s .pre .1) _ _ _ (w .before .wide-starts .ensures) (w .wide-owners .ensures) (l .lengths-of .ensures .0) in (
+      (
+        intervals-most (s .args .pool) (s .pre .0) (s .pre .1),
+        owners-below (s .args .pool) (s .pre .0) (s .pre .1) _ _ _ (w .before .wide-starts .ensures) (w .wide-owners .ensures) (l .lengths-of .ensures .0),
+        omega (arith, t, valid-limited (s .args .pool) (s .pre .0) .most),
+      ),
+      (sym (z .none .ensures .0), z .none .ensures .1),
     )
 
 shares-requires : tie.Need-shares-requires
 shares-requires c κs =
-    let s = c .before .before .before .before .before .before .before .before .before .before in
+    let s = c .before .before .before .before .before .before .before .before .before .before .before .before in
     let d = s .args .ids .now in
     let k = s .args .capacities .now in
     let r = s .pre .4 in (
@@ -47,7 +55,7 @@ shares-requires c κs =
 quotas-requires : tie.Need-quotas-requires
 quotas-requires c κs =
     let b = c .before .before .before in
-    let s = b .before .before .before .before .before .before .before .before .before .before in (
+    let s = b .before .before .before .before .before .before .before .before .before .before .before .before in (
       s .pre .3,
       below-rising (s .args .ids .now) (s .args .capacities .now) (s .args .n) (s .pre .4),
       ascending-rising (s .args .ids .now) (s .args .capacities .now) (s .args .n) (s .pre .4),
@@ -59,7 +67,7 @@ walk-requires c κs =
     let q = c .before .before .before .before in
     let h = q .before .before .before in
     let b = h .before in
-    let l = b .before .before .before in
+    let l = b .before .before .before .before .before in
     let w = l .before .before .before in
     let s = w .before .before .before .before in
     let a = s .args in
@@ -87,7 +95,7 @@ returns c =
     let q = c .before .before .before .before .before in
     let h = q .before .before .before in
     let b = h .before in
-    let l = b .before .before .before in
+    let l = b .before .before .before .before .before in
     let w = l .before .before .before in
     let s = w .before .before .before .before in
     let a = s .args in (
@@ -106,6 +114,7 @@ turns-of-spec =
     wide-starts-requires
     wide-owners-requires
     lengths-of-requires
+    none-requires
     by-owner-requires
     shares-requires
     quotas-requires

@@ -1,5 +1,6 @@
 -- `placement::valid::covered` meets its contract: each of the three parts is decided by a call.
 use mathlib.Core.Path.{sym, _∙_}
+use native.Mathlib.Omega.{arith}
 use borrow.Author.Needs.{needs}
 use borrow.Author.Tests.{not-true, not-false}
 use Rattle.slicing_core.proofs.DeviceRows.{below-rising}
@@ -28,12 +29,17 @@ returns-2 : tie.Need-returns-2
 returns-2 c = λ h.
     c .if2 .taken (c .before .sum .ensures ∙ rw (c .before .before .before .before .before .before .lengths-of .ensures .0) (h .covers))
 
+none-requires : tie.Need-none-requires
+none-requires c κs = search needs
+
 by-owner-requires : tie.Need-by-owner-requires
-by-owner-requires c κs = search needs
+by-owner-requires c κs =
+    let zeros = c .before .before .none .ensures in
+    (search needs, (sym (zeros .0), zeros .1))
 
 shares-requires : tie.Need-shares-requires
 shares-requires c κs =
-    let start = c .before .before .before .before .before .before .before .before .before in
+    let start = c .before .before .before .before .before .before .before .before .before .before .before in
     let pre = start .pre in (
       (pre .0 .2, pre .0 .0, below-capacities (start .args .ids .now) (start .args .capacities .now) (start .args .n) (pre .1 .0)),
       some-capacities (start .args .ids .now) (start .args .capacities .now) (start .args .n) (pre .1 .0) (pre .0 .1),
@@ -41,21 +47,21 @@ shares-requires c κs =
 
 hold-requires : tie.Need-hold-requires
 hold-requires c κs =
-    let start = c .before .before .before .before .before .before .before .before .before .before .before .before in
+    let start = c .before .before .before .before .before .before .before .before .before .before .before .before .before .before in
     (start .pre .0 .2, below-rising (start .args .ids .now) (start .args .capacities .now) (start .args .n) (start .pre .1 .0))
 
 returns-3 : tie.Need-returns-3
 returns-3 c =
     let shared = c .before .before .before in
-    let summed = shared .before .before .before in
+    let summed = shared .before .before .before .before .before in
     let parted = summed .before .before .before in
     let measured = parted .before .before .before in
     let args = measured .before .args in
     decides-held (args .ids .now) (args .capacities .now) (args .n) (measured .before .pre .1 .0) (args .range) (args .q) (args .starts .now)
-    (args .owners .now) (measured .lengths-of .result) (shared .before .by-owner .result) (shared .shares .result) (measured .lengths-of .ensures .0)
+    (args .owners .now) (measured .lengths-of .result) (shared .before .by-owner .last .0) (shared .shares .result) (measured .lengths-of .ensures .0)
     (shared .before .by-owner .ensures .0) (shared .shares .ensures .0)
     (rw (not-false (parted .before .coalesced .result) (parted .if1 .left)) at (parted .before .coalesced .ensures))
-    (sym (summed .before .sum .ensures) ∙ summed .if2 .left) (c .hold .result) (c .hold .ensures)
+    (omega arith) (c .hold .result) (c .hold .ensures)
 
 pub covered-spec : {M : Type 1} → statement M
 covered-spec =
@@ -66,6 +72,7 @@ covered-spec =
     returns
     sum-requires
     returns-2
+    none-requires
     by-owner-requires
     shares-requires
     hold-requires

@@ -2,23 +2,19 @@
 -- that are left, is what it has of all.
 use Prim.Native.Nat.{_-_, _<_}
 use native.Mathlib.Omega.{arith}
-use borrow.Author.Needs.{needs}
 use Rattle.slicing_core.specs.Rows.{at}
 use Rattle.slicing_core.proofs.OwnerRows.{Tallied, tallied-none, tallied-total, tallied-more, tallied-all}
 use Rattle.slicing_core.proofs.owned.by_owner.Statement.{statement}
 use Rattle.slicing_core.proofs.owned.by_owner.Tie as tie
 
 abbrev Inv-loop : tie.InvT-loop
-Inv-loop lengths owners q points₀ i₀ points i = Tallied lengths owners q points i
+Inv-loop points₀ lengths owners q i₀ points i = Tallied lengths owners q points i
 
 abbrev μ-loop : tie.MeasureT-loop
-μ-loop lengths owners q points₀ i₀ points i = q - i
-
-none-requires : tie.Need-none-requires Inv-loop μ-loop
-none-requires c κs = search needs
+μ-loop points₀ lengths owners q i₀ points i = q - i
 
 loop-holds : tie.Need-loop-holds Inv-loop μ-loop
-loop-holds c = tallied-none _ _ _ _ (omega arith) (c .none .ensures .1)
+loop-holds c = tallied-none _ _ _ _ (c .pre .1 .0) (c .pre .1 .1)
 
 mul-place : tie.Need-mul-place Inv-loop μ-loop
 mul-place c = omega arith
@@ -27,31 +23,31 @@ element-copy-out-place : tie.Need-element-copy-out-place Inv-loop μ-loop
 element-copy-out-place c = omega arith
 
 place-below : (c : tie.After-place Inv-loop μ-loop)
-    → at (c .before .before .before .before .args .owners .now) (c .before .before .loop .i) < 65536
-place-below c = c .before .before .before .before .pre .1 (c .before .before .loop .i) (c .before .loop-test .taken)
+    → at (c .before .before .before .args .owners .now) (c .before .before .loop .i) < 65536
+place-below c = c .before .before .before .pre .0 .1 (c .before .before .loop .i) (c .before .loop-test .taken)
 
 mul-points : tie.Need-mul-points Inv-loop μ-loop
 mul-points c = omega (arith, place-below c)
 
-array-read-points : tie.Need-array-read-points Inv-loop μ-loop
-array-read-points c = place-below c
+element-copy-out-points : tie.Need-element-copy-out-points Inv-loop μ-loop
+element-copy-out-points c = place-below c
 
 mul-points-2 : tie.Need-mul-points-2 Inv-loop μ-loop
 mul-points-2 c = omega arith
 
-element-copy-out-points : tie.Need-element-copy-out-points Inv-loop μ-loop
-element-copy-out-points c = omega arith
+element-copy-out-points-2 : tie.Need-element-copy-out-points-2 Inv-loop μ-loop
+element-copy-out-points-2 c = omega arith
 
 add-points : tie.Need-add-points Inv-loop μ-loop
 add-points c =
-    let t = tallied-total _ _ _ _ _ (c .before .before .before .loop .inv) (c .before .before .loop-test .taken) (place-below (c .before)) in
+    let t = tallied-total _ _ _ _ _ (c .before .before .before .before .loop .inv) (c .before .before .before .loop-test .taken) (place-below (c .before .before)) in
     omega arith
 
 mul-points-3 : tie.Need-mul-points-3 Inv-loop μ-loop
-mul-points-3 c = omega (arith, place-below (c .before))
+mul-points-3 c = omega (arith, place-below (c .before .before))
 
-array-write-points : tie.Need-array-write-points Inv-loop μ-loop
-array-write-points c = place-below (c .before)
+element-write-points : tie.Need-element-write-points Inv-loop μ-loop
+element-write-points c = place-below (c .before .before)
 
 add-i : tie.Need-add-i Inv-loop μ-loop
 add-i c = omega arith
@@ -61,7 +57,7 @@ loop-less c = omega arith
 
 loop-again : tie.Need-loop-again Inv-loop μ-loop
 loop-again c =
-    tallied-more _ _ _ _ _ (c .before .before .before .loop .inv) (c .before .before .loop-test .taken) (place-below (c .before))
+    tallied-more _ _ _ _ _ (c .before .before .before .before .loop .inv) (c .before .before .before .loop-test .taken) (place-below (c .before .before))
 
 returns : tie.Need-returns Inv-loop μ-loop
 returns c = (tallied-all _ _ _ _ _ (c .before .loop .inv) (c .loop-test .left), c .before .loop .inv .size)
@@ -72,17 +68,16 @@ by-owner-spec =
     (tie.spec
     Inv-loop
     μ-loop
-    none-requires
     loop-holds
     mul-place
     element-copy-out-place
     mul-points
-    array-read-points
-    mul-points-2
     element-copy-out-points
+    mul-points-2
+    element-copy-out-points-2
     add-points
     mul-points-3
-    array-write-points
+    element-write-points
     add-i
     loop-less
     loop-again
