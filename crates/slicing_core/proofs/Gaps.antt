@@ -2,9 +2,9 @@
 --
 --   Filling s₀ l₀ needs₀ ids n d gap runs₀ row₀ s l needs runs row left     where the filling stands, `left` points before its end
 --
--- Filling: filling-none, filling-push, filling-whole, filling-part, filling-end
+-- Filling: filling-none, filling-rest (while points are left a device is in need), filling-push, filling-whole, filling-part, filling-end
 -- Filled: filled-total, filled-needs
--- the needs: row-below (while points are left a device is in need)
+-- the labels: label-fits
 use mathlib.Core.Path.{_≡_, refl, sym, ap, _∙_}
 use mathlib.Core.List.{List, _++_, map, map-append, append-assoc, append-nil}
 use Prim.Native.Nat.{ℕ, zero, suc, _+_, _-_, _*_, _^_, _≤_, _<_, min}
@@ -12,22 +12,17 @@ use native.Mathlib.Omega.{arith}
 use lib.Dec.{eqb}
 use lib.ListN.{length, set, take, drop, replicate, length-append, length-replicate, replicate-append-replicate, length-set}
 use lib.Seq.{getD-set-same}
+use mir.Syntax.{w64}
+use mir.Val.{Fits}
 use Rattle.slicing.specs.Runs.{total, expand, Coalesced}
 use Rattle.slicing.proofs.Runs.{map-replicate, length-expand, expand-relabel, total-relabel, total-takePoints, total-dropPoints}
 use Rattle.slicing_core.specs.Rows.{at, rows}
-use Rattle.slicing_core.specs.Stages.{scratch, Held, Pushed, Filled}
-use Rattle.slicing_core.proofs.Rows.{rows-step, rows-before}
+use Rattle.slicing_core.specs.Stages.{scratch, Below, Held, Pushed, Filled}
+use Rattle.slicing_core.proofs.Rows.{rows-step, rows-end, rows-before}
 use Rattle.slicing_core.proofs.Pushing.{pushed-total}
 use Rattle.slicing_core.proofs.Points.{take-run, drop-run, expand-takePoints, expand-dropPoints}
 
 -- ---- the needs
-
-pub row-below : (needs ids : List ℕ) (row n k : ℕ) → row ≤ n → 1 ≤ k → k ≤ total (rows needs ids row (n - row)) → row < n
-row-below needs ids row n k r p h = go (n - row) refl h
-  where
-    go : (m : ℕ) → n - row ≡ m → k ≤ total (rows needs ids row m) → row < n
-    go zero e b = absurd (omega arith)
-    go (suc m) e b = omega arith
 
 needs-whole : (needs ids : List ℕ) (row n : ℕ) → row < n
     → expand (rows needs ids row (n - row))
@@ -49,6 +44,11 @@ needs-part needs ids row n m h b k =
       e,
     )
 
+-- ---- the labels
+
+pub label-fits : (ids : List ℕ) (n d row : ℕ) → d < 65536 → Below 65536 ids n → row < n → Fits w64 (d * 65536 + at ids row)
+label-fits ids n d row h b k = omega (arith, b row k)
+
 -- ---- the filling
 
 module _ (s₀ l₀ needs₀ ids : List ℕ) (n d gap runs₀ row₀ : ℕ) where
@@ -65,7 +65,7 @@ module _ (s₀ l₀ needs₀ ids : List ℕ) (n d gap runs₀ row₀ : ℕ) wher
     pub size : total (rows s l 0 runs) + left ≡ total (rows s₀ l₀ 0 runs₀) + gap
     pub least : row₀ ≤ row
     pub rest : row ≤ n
-    pub most : runs + min 1 left ≤ runs₀ + (row - row₀) + min 1 gap
+    pub most : runs + row₀ + min 1 left ≤ runs₀ + row + min 1 gap
 
   pub filling-none : (k : ℕ) → Held s₀ l₀ runs₀ k → length needs₀ ≡ 256 → row₀ ≤ n → gap ≤ total (rows needs₀ ids row₀ (n - row₀))
       → Filling s₀ l₀ needs₀ runs₀ row₀ gap
@@ -83,6 +83,11 @@ module _ (s₀ l₀ needs₀ ids : List ℕ) (n d gap runs₀ row₀ : ℕ) wher
     most = omega arith;
   }
 
+  -- while points are left a device is in need
+  pub filling-rest : {s l needs : List ℕ} {runs left : ℕ} (rest : ℕ) → Filling s l needs runs (n - rest) left → 1 ≤ left → 1 ≤ rest
+  filling-rest {s} {l} {needs} zero w h = absurd (omega (arith, rw (rows-end needs ids (n - 0) n (omega arith)) at (w .enough)))
+  filling-rest (suc rest) w h = omega arith
+
   -- what `push` asks
   pub filling-push : {s l needs : List ℕ} {runs row left : ℕ} (m : ℕ) → Held s₀ l₀ runs₀ (n - row₀ + min 1 gap)
       → total (rows s₀ l₀ 0 runs₀) + gap < 2 ^ 64 → Filling s l needs runs row left → 1 ≤ left → m ≤ left
@@ -91,21 +96,17 @@ module _ (s₀ l₀ needs₀ ids : List ℕ) (n d gap runs₀ row₀ : ℕ) wher
     record {
       sizes = w .sizes;
       labels = w .labels;
-      room = room runs runs₀ row row₀ n (min 1 m) (min 1 left) (min 1 gap) (omega arith) (omega arith) (w .most) (w .rest) (held .room);
+      room = omega (arith, w .most, w .rest, held .room);
       coalesced = w .coalesced;
     },
     omega (arith, w .size),
   )
-    where
-      room : (runs runs₀ row row₀ n x y z : ℕ) → x ≤ 1 → 1 ≤ y → runs + y ≤ runs₀ + (row - row₀) + z → row ≤ n
-          → runs₀ + (n - row₀ + z) ≤ scratch → runs + x ≤ scratch
-      room runs runs₀ row row₀ n x y z f g h a b = omega arith
 
   -- the device at `row` gets m points
   filling-step : {s l needs s' l' : List ℕ} {runs row left runs' m : ℕ} (left' row' : ℕ) (needs' : List ℕ) → Filling s l needs runs row left
       → Pushed s l runs m (d * 65536 + at ids row) s' l' runs' → left ≡ m + left'
       → expand (rows needs ids row (n - row)) ≡ replicate m (at ids row) ++ expand (rows needs' ids row' (n - row'))
-      → length needs' ≡ 256 → row ≤ row' → row' ≤ n → min 1 m + min 1 left' ≤ row' - row + min 1 left
+      → length needs' ≡ 256 → row ≤ row' → row' ≤ n → min 1 m + min 1 left' + row ≤ row' + min 1 left
       → Filling s' l' needs' runs' row' left'
   filling-step {s} {l} {needs} {s'} {l'} {runs} {row} {left} {runs'} {m} left' row' needs' w p e q h a b c = record {
     sizes = p .sizes;
@@ -118,38 +119,33 @@ module _ (s₀ l₀ needs₀ ids : List ℕ) (n d gap runs₀ row₀ : ℕ) wher
     size = omega (arith, w .size, pushed-total p);
     least = omega (arith, w .least);
     rest = b;
-    most = counted runs runs' runs₀ row row' row₀ (min 1 m) (min 1 left) (min 1 left') (min 1 gap) (p .most) c (w .most) (w .least) a;
+    most = omega (arith, w .most, p .most);
   }
     where
       first : take left (expand (rows needs ids row (n - row))) ≡ replicate m (at ids row) ++ take left' (expand (rows needs' ids row' (n - row')))
       first = rw (e, q) (take-run m left' (at ids row) (expand (rows needs' ids row' (n - row'))))
 
-      counted : (runs runs' runs₀ row row' row₀ x y y' z : ℕ) → runs' ≤ runs + x → x + y' ≤ row' - row + y → runs + y ≤ runs₀ + (row - row₀) + z
-          → row₀ ≤ row → row ≤ row' → runs' + y' ≤ runs₀ + (row' - row₀) + z
-      counted runs runs' runs₀ row row' row₀ x y y' z f g h a b = omega arith
-
   -- it gets all that it needs
-  pub filling-whole : {s l needs s' l' : List ℕ} {runs row left runs' : ℕ} → Filling s l needs runs row left → 1 ≤ left → row < n → at needs row ≤ left
-      → Pushed s l runs (at needs row) (d * 65536 + at ids row) s' l' runs'
-      → Filling s' l' (set needs row 0) runs' (row + 1) (left - at needs row)
-  filling-whole {s} {l} {needs} {s'} {l'} {runs} {row} {left} {runs'} w g h k p =
-      filling-step (left - at needs row) (row + 1) (set needs row 0) w p (omega arith) (needs-whole needs ids row n h)
-      (length-set needs row 0 ∙ w .wanted) (omega arith) (omega arith) (counted (at needs row) left (left - at needs row) g)
-    where
-      counted : (m left left' : ℕ) → 1 ≤ left → min 1 m + min 1 left' ≤ row + 1 - row + min 1 left
-      counted m left left' g = omega arith
+  pub filling-whole : {s l needs s' l' : List ℕ} {runs rest left runs' : ℕ} (row rest' : ℕ) → Filling s l needs runs (n - rest) left → 1 ≤ left
+      → row + rest ≡ n → rest ≡ rest' + 1 → at needs row ≤ left → Pushed s l runs (at needs row) (d * 65536 + at ids row) s' l' runs'
+      → Filling s' l' (set needs row 0) runs' (n - rest') (left - at needs row)
+  filling-whole {s} {l} {needs} {s'} {l'} {runs} {rest} {left} {runs'} row rest' w g e f k p =
+      let here : n - rest ≡ row = omega arith in
+      let next : n - rest' ≡ row + 1 = omega arith in
+      rw next
+      (filling-step (left - at needs row) (row + 1) (set needs row 0) (rw here at w) p (omega arith) (needs-whole needs ids row n (omega arith))
+      (length-set needs row 0 ∙ w .wanted) (omega arith) (omega arith) (omega arith))
 
   -- it gets the points that are left
-  pub filling-part : {s l needs s' l' : List ℕ} {runs row left runs' : ℕ} → Filling s l needs runs row left → row < n → n ≤ 256 → left < at needs row
-      → Pushed s l runs left (d * 65536 + at ids row) s' l' runs'
-      → Filling s' l' (set needs row (at needs row - left)) runs' row 0
-  filling-part {s} {l} {needs} {s'} {l'} {runs} {row} {left} {runs'} w h b k p =
-      filling-step 0 row (set needs row (at needs row - left)) w p (omega arith)
-      (needs-part needs ids row n left h (omega (arith, w .wanted)) (omega arith))
-      (length-set needs row (at needs row - left) ∙ w .wanted) (omega arith) (omega arith) (counted left)
-    where
-      counted : (left : ℕ) → min 1 left + min 1 0 ≤ row - row + min 1 left
-      counted left = omega arith
+  pub filling-part : {s l needs s' l' : List ℕ} {runs rest left runs' : ℕ} (row : ℕ) → Filling s l needs runs (n - rest) left → n ≤ 256 → 1 ≤ rest
+      → row + rest ≡ n → left < at needs row → Pushed s l runs left (d * 65536 + at ids row) s' l' runs'
+      → Filling s' l' (set needs row (at needs row - left)) runs' (n - rest) 0
+  filling-part {s} {l} {needs} {s'} {l'} {runs} {rest} {left} {runs'} row w b h e k p =
+      let here : n - rest ≡ row = omega arith in
+      rw here
+      (filling-step 0 row (set needs row (at needs row - left)) (rw here at w) p (omega arith)
+      (needs-part needs ids row n left (omega arith) (omega (arith, w .wanted)) (omega arith))
+      (length-set needs row (at needs row - left) ∙ w .wanted) (omega arith) (omega arith) (omega arith))
 
   pub filling-end : {s l needs : List ℕ} {runs row left : ℕ} → Filling s l needs runs row left → left ≤ 0
       → Filled s₀ l₀ needs₀ ids n row₀ runs₀ gap d s l needs row runs
@@ -162,7 +158,7 @@ module _ (s₀ l₀ needs₀ ids : List ℕ) (n d gap runs₀ row₀ : ℕ) wher
     left = rw expand-dropPoints (rw none at (w .after));
     least = w .least;
     rest = w .rest;
-    most = omega (arith, w .most);
+    most = omega (arith, w .most, w .least);
   }
     where
       none : left ≡ 0

@@ -120,18 +120,18 @@ module _ {ts : List (Run Turn)} {lengths owners ids : List ℕ} {q n : ℕ} {s l
   )
 
   module _ (few : n ≤ 256) (below : Below 65536 ids n) {s1 l1 : List ℕ} {m1 : ℕ} (p : Pushed s l runs (c .front) (d * 65536 + d) s1 l1 m1) where
-    pub walking-gap : Held s1 l1 m1 (n - row + min 1 (c .gap))
-        × (((length needs ≡ 256) × (n ≤ 256) × (row ≤ n) × (d < 65536) × Below 65536 ids n)
-        × ((c .gap ≤ total (rows needs ids row (n - row))) × (total (rows s1 l1 0 m1) + c .gap < 2 ^ 64)))
-    walking-gap = (
+    pub walking-gap : (rest : ℕ) → n - row ≡ rest → Held s1 l1 m1 (rest + min 1 (c .gap))
+        × (((length needs ≡ 256) × (n ≤ 256) × (rest ≤ n) × (d < 65536) × Below 65536 ids n)
+        × ((c .gap ≤ total (rows needs ids row rest)) × (total (rows s1 l1 0 m1) + c .gap < 2 ^ 64)))
+    walking-gap rest e = (
       record {
         sizes = p .sizes;
         labels = p .labels;
-        room = counted m1 runs (q - i) (n - row) (min 1 (c .front)) (min 1 (c .gap)) (min 1 (c .back)) (p .most)
-            (cutTo-pieces t) (omega arith) (w .room);
+        room = counted m1 runs (q - i) rest (min 1 (c .front)) (min 1 (c .gap)) (min 1 (c .back)) (p .most)
+            (cutTo-pieces t) (omega arith) (rw e at (w .room));
         coalesced = p .coalesced;
       },
-      ((w .wanted, few, w .last, b, below), (omega (arith, gap-enough), omega (arith, sizes-small, pushed-total p))),
+      ((w .wanted, few, omega arith, b, below), (omega (arith, rw e at gap-enough), omega (arith, sizes-small, pushed-total p))),
     )
       where
         counted : (m runs k e x y z : ℕ) → m ≤ runs + x → x + y + z ≤ 2 → 1 ≤ k → runs + 2 * k + e ≤ scratch → m + (e + y) ≤ scratch

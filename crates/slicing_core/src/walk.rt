@@ -16,13 +16,13 @@ ghost use Rattle.slicing.proofs.Walk.{takens};
 ghost use Rattle.slicing_core.specs.Rows.{at, rows, turnOf};
 ghost use Rattle.slicing_core.specs.Stages.{scratch, Below, Held, Filled};
 
-// Where the walk stands: the runs written, and the first device that may still be in need.
+// Where the walk stands: the runs written, and how many devices, from the first in need on, may still be in need.
 pub struct Cursor {
     pub runs: usize,
-    pub row: usize,
+    pub rest: usize,
 }
 
-// Fills a gap of the owner `from` with the devices in need, from the cursor's row on.
+// Fills a gap of the owner `from` with the devices in need, from the first of the cursor's rest on.
 fn fill_gap(
     sizes: &mut [u64; SCRATCH],
     labels: &mut [u64; SCRATCH],
@@ -33,17 +33,19 @@ fn fill_gap(
     gap: u64,
     cursor: Cursor,
 ) -> Cursor
-    requires { ⌜ Held (now sizes) (now labels) (cursor .runs) (n - cursor .row + min 1 gap) ⌝ }
-    requires { ⌜ (length (now needs) ≡ 256) × (n ≤ 256) × (cursor .row ≤ n) × (from < 65536) × Below 65536 (now ids) n ⌝ }
-    requires { ⌜ gap ≤ total (rows (now needs) (now ids) (cursor .row) (n - cursor .row)) ⌝ }
+    requires { ⌜ Held (now sizes) (now labels) (cursor .runs) (cursor .rest + min 1 gap) ⌝ }
+    requires { ⌜ (length (now needs) ≡ 256) × (n ≤ 256) × (cursor .rest ≤ n) × (from < 65536) × Below 65536 (now ids) n ⌝ }
+    requires { ⌜ gap ≤ total (rows (now needs) (now ids) (n - cursor .rest) (cursor .rest)) ⌝ }
     requires { ⌜ total (rows (now sizes) (now labels) 0 (cursor .runs)) + gap < 2 ^ 64 ⌝ }
-    ensures { λ r. ⌜ Filled (now (sizes .entry)) (now (labels .entry)) (now (needs .entry)) (now (ids .entry)) n (cursor .row) (cursor .runs) gap from
-        (now (sizes .exit)) (now (labels .exit)) (now (needs .exit)) (r .row) (r .runs) ⌝ }
+    ensures filled { λ r. ⌜ Filled (now (sizes .entry)) (now (labels .entry)) (now (needs .entry)) (now (ids .entry)) n (n - cursor .rest) (cursor .runs) gap from
+        (now (sizes .exit)) (now (labels .exit)) (now (needs .exit)) (n - r .rest) (r .runs) ⌝ }
+    ensures rest { λ r. ⌜ r .rest ≤ n ⌝ }
 {
     let mut runs = cursor.runs;
-    let mut row = cursor.row;
+    let mut rest = cursor.rest;
     let mut left = gap;
     while left > 0 {
+        let row = n - rest;
         let need = needs[row];
         if need <= left {
             runs = push(
@@ -55,7 +57,7 @@ fn fill_gap(
             );
             left = left - need;
             needs[row] = 0;
-            row = row + 1;
+            rest = rest - 1;
         } else {
             runs = push(
                 &mut *sizes,
@@ -70,7 +72,7 @@ fn fill_gap(
     }
     Cursor {
         runs: runs,
-        row: row,
+        rest: rest,
     }
 }
 
@@ -97,7 +99,7 @@ pub fn walk(
     let mut sizes = empty();
     let mut labels = empty();
     let mut runs = 0;
-    let mut row = 0;
+    let mut rest = n;
     let mut flag = false;
     let mut touch = false;
     let mut i = 0;
@@ -123,10 +125,10 @@ pub fn walk(
             c.gap,
             Cursor {
                 runs: before,
-                row: row,
+                rest: rest,
             },
         );
-        row = filled.row;
+        rest = filled.rest;
         runs = push(
             &mut sizes,
             &mut labels,

@@ -2,8 +2,10 @@
 -- are all the turns.
 use mathlib.Core.Path.{sym}
 use mathlib.Core.Bool.{false}
-use Prim.Native.Nat.{_-_, _<_}
+use Prim.Native.Nat.{_-_, _≤_, _<_}
 use native.Mathlib.Omega.{arith}
+use native.Mathlib.Nat.{sub-self}
+use lib.Arith.{sub-sub-self}
 use borrow.Author.Needs.{needs}
 use Rattle.slicing.specs.SixSteps.{end, fill}
 use Rattle.slicing.specs.SixSteps as SixSteps
@@ -14,12 +16,13 @@ use Rattle.slicing_core.proofs.walk.walk.Statement.{statement}
 use Rattle.slicing_core.proofs.walk.walk.Tie as tie
 
 abbrev Inv-loop : tie.InvT-loop
-Inv-loop lengths owners q release₀ needs₀ ids n sizes₀ labels₀ runs₀ row₀ flag₀ touch₀ i₀ release needs sizes labels runs row flag touch i =
+Inv-loop lengths owners q release₀ needs₀ ids n sizes₀ labels₀ runs₀ rest₀ flag₀ touch₀ i₀ release needs sizes labels runs rest flag touch i =
     Walking (fill (SixSteps.walk (at release₀) end false (rows lengths owners 0 q)) (rows needs₀ ids 0 n)) lengths owners ids q n
-    sizes labels release needs runs row i flag touch
+    sizes labels release needs runs (n - rest) i flag touch
+    × (rest ≤ n)
 
 abbrev μ-loop : tie.MeasureT-loop
-μ-loop lengths owners q release₀ needs₀ ids n sizes₀ labels₀ runs₀ row₀ flag₀ touch₀ i₀ release needs sizes labels runs row flag touch i = q - i
+μ-loop lengths owners q release₀ needs₀ ids n sizes₀ labels₀ runs₀ rest₀ flag₀ touch₀ i₀ release needs sizes labels runs rest flag touch i = q - i
 
 owner-below : (c : tie.In-loop Inv-loop μ-loop) → at (c .before .before .before .before .args .owners .now) (c .before .loop .i) < 65536
 owner-below c = c .before .before .before .before .pre .0 .2 (c .before .loop .i) (c .loop-test .taken)
@@ -32,9 +35,12 @@ empty-requires-2 c κs = search needs
 
 loop-holds : tie.Need-loop-holds Inv-loop μ-loop
 loop-holds c =
-    let pre = c .before .before .pre in
-    walking-none _ _ _ _ _ _ _ _ _ (sym (c .before .empty .ensures)) (sym (c .empty2 .ensures)) (pre .1 .0 .0) (pre .1 .0 .1) (pre .0 .0) (pre .0 .1)
-    (pre .1 .1 .0) (pre .1 .1 .1)
+    let pre = c .before .before .pre in (
+      rw sub-self
+          (walking-none _ _ _ _ _ _ _ _ _ (sym (c .before .empty .ensures)) (sym (c .empty2 .ensures)) (pre .1 .0 .0) (pre .1 .0 .1) (pre .0 .0) (pre .0 .1)
+          (pre .1 .1 .0) (pre .1 .1 .1)),
+      omega arith,
+    )
 
 mul-owner : tie.Need-mul-owner Inv-loop μ-loop
 mul-owner c = omega arith
@@ -85,7 +91,7 @@ add-push c =
 push-requires : tie.Need-push-requires Inv-loop μ-loop
 push-requires c κs =
     let turn = c .before .before .before .before .before .before .before .before in
-    walking-front (turn .before .loop .inv) (turn .loop-test .taken) (owner-below turn) (c .before .before .before .before .cut-interval .ensures)
+    walking-front (turn .before .loop .inv .0) (turn .loop-test .taken) (owner-below turn) (c .before .before .before .before .cut-interval .ensures)
 
 fill-gap-requires : tie.Need-fill-gap-requires Inv-loop μ-loop
 fill-gap-requires c κs =
@@ -93,8 +99,8 @@ fill-gap-requires c κs =
     let cut = front .before .before .before .before .before in
     let turn = cut .before .before .before .before in
     let start = turn .before .before .before .before in
-    walking-gap (turn .before .loop .inv) (turn .loop-test .taken) (owner-below turn) (cut .cut-interval .ensures) (start .pre .0 .1) (start .pre .0 .3)
-    (front .push .ensures)
+    walking-gap (turn .before .loop .inv .0) (turn .loop-test .taken) (owner-below turn) (cut .cut-interval .ensures) (start .pre .0 .1) (start .pre .0 .3)
+    (front .push .ensures) _ (sub-sub-self (turn .before .loop .inv .1))
 
 mul-push-2 : tie.Need-mul-push-2 Inv-loop μ-loop
 mul-push-2 c =
@@ -112,8 +118,8 @@ push-requires-2 c κs =
     let cut = front .before .before .before .before .before in
     let turn = cut .before .before .before .before in
     let start = turn .before .before .before .before in
-    walking-back (turn .before .loop .inv) (turn .loop-test .taken) (owner-below turn) (cut .cut-interval .ensures) (start .pre .0 .1) (start .pre .0 .3)
-    (front .push .ensures) (c .before .before .fill-gap .ensures)
+    walking-back (turn .before .loop .inv .0) (turn .loop-test .taken) (owner-below turn) (cut .cut-interval .ensures) (start .pre .0 .1) (start .pre .0 .3)
+    (front .push .ensures) (c .before .before .fill-gap .ensures .0)
 
 add-i : tie.Need-add-i Inv-loop μ-loop
 add-i c =
@@ -128,13 +134,15 @@ loop-again c =
     let front = c .before .before .before .before .before .before .before in
     let cut = front .before .before .before .before .before in
     let turn = cut .before .before .before .before in
-    let start = turn .before .before .before .before in
-    walking-step (turn .before .loop .inv) (turn .loop-test .taken) (owner-below turn) (cut .cut-interval .ensures) (start .pre .0 .1) (start .pre .0 .3)
-    (front .push .ensures) (c .before .before .before .fill-gap .ensures) (c .push2 .ensures)
+    let start = turn .before .before .before .before in (
+      walking-step (turn .before .loop .inv .0) (turn .loop-test .taken) (owner-below turn) (cut .cut-interval .ensures) (start .pre .0 .1) (start .pre .0 .3)
+          (front .push .ensures) (c .before .before .before .fill-gap .ensures .0) (c .push2 .ensures),
+      c .before .before .before .fill-gap .ensures .1,
+    )
 
 returns : tie.Need-returns Inv-loop μ-loop
 returns c =
-    let inv = c .before .loop .inv in
+    let inv = c .before .loop .inv .0 in
     (walking-end inv (c .loop-test .left), (omega arith, inv .sizes, inv .labels))
 
 pub walk-spec : {M : Type 1} → statement M
