@@ -32,15 +32,6 @@ fn wide32(x: u32) -> u64 {
     x as u64
 }
 
-fn spaced(n: u64) {
-    io::write_all(STDOUT_FILENO, b" ");
-    io::print_decimal(STDOUT_FILENO, n);
-}
-
-fn end_line() {
-    io::write_all(STDOUT_FILENO, b"\n");
-}
-
 // Prints a place, unless both its numbers are 0.
 fn row(place: usize, a: u64, b: u64) {
     if a == 0 {
@@ -48,9 +39,9 @@ fn row(place: usize, a: u64, b: u64) {
             return;
         }
     }
-    spaced(place as u64);
-    spaced(a);
-    spaced(b);
+    number_text::spaced(place as u64);
+    number_text::spaced(a);
+    number_text::spaced(b);
 }
 
 fn print_devices(ids: &[u16; 256], capacities: &[u32; 256]) {
@@ -59,7 +50,7 @@ fn print_devices(ids: &[u16; 256], capacities: &[u32; 256]) {
         row(i, wide16(ids[i]), wide32(capacities[i]));
         i += 1;
     }
-    end_line();
+    number_text::end_line();
 }
 
 fn print_intervals(starts: &[u32; 4096], owners: &[u16; 4096]) {
@@ -68,7 +59,7 @@ fn print_intervals(starts: &[u32; 4096], owners: &[u16; 4096]) {
         row(i, wide32(starts[i]), wide16(owners[i]));
         i += 1;
     }
-    end_line();
+    number_text::end_line();
 }
 
 fn print_pool(pool: Pool) {
@@ -77,8 +68,8 @@ fn print_pool(pool: Pool) {
     let starts = pool.starts;
     let owners = pool.owners;
     io::print_decimal(STDOUT_FILENO, pool.range);
-    spaced(wide32(pool.limit));
-    spaced(pool.devices as u64);
+    number_text::spaced(wide32(pool.limit));
+    number_text::spaced(pool.devices as u64);
     print_devices(&ids, &capacities);
     io::print_decimal(STDOUT_FILENO, pool.intervals as u64);
     print_intervals(&starts, &owners);
@@ -91,7 +82,7 @@ fn print_numbers(list: &[u64], n: usize) {
         if i >= list.len() {
             return;
         }
-        spaced(list[i]);
+        number_text::spaced(list[i]);
         i += 1;
     }
 }
@@ -119,7 +110,7 @@ fn fresh_case(range: u64, limit: u64) -> Pool {
     let answer = placement::fresh(range, limit);
     let pool = answer.pool;
     io::print_decimal(STDOUT_FILENO, wide32(answer.refusal));
-    end_line();
+    number_text::end_line();
     print_pool(pool);
     pool
 }
@@ -140,7 +131,7 @@ fn print_list(list: &[u64], count: usize) {
         return;
     }
     print_numbers(list, 4 * count);
-    spaced(unwritten(list, 4 * count) as u64);
+    number_text::spaced(unwritten(list, 4 * count) as u64);
 }
 
 // Runs a change with a list that holds UNWRITTEN.
@@ -148,15 +139,15 @@ fn change_within(pool: Pool, numbers: &[u64; 16384], list: &mut [u64]) -> Pool {
     let answer = changed(pool, numbers[0], numbers[1], numbers[2], &mut *list);
     let next = answer.pool;
     io::print_decimal(STDOUT_FILENO, wide32(answer.refusal));
-    spaced(answer.moved);
-    spaced(answer.count as u64);
+    number_text::spaced(answer.moved);
+    number_text::spaced(answer.count as u64);
     if numbers[4] == 1 {
         print_list(list, answer.count);
-        end_line();
+        number_text::end_line();
         print_pool(next);
         return next;
     }
-    end_line();
+    number_text::end_line();
     next
 }
 
@@ -170,14 +161,14 @@ fn share_case(pool: Pool, id: u64) {
     match placement::share(pool, id) {
         ShareAnswer::Share(points) => {
             io::print_decimal(STDOUT_FILENO, 0);
-            spaced(points);
+            number_text::spaced(points);
         }
         ShareAnswer::Refused(refusal) => {
             io::print_decimal(STDOUT_FILENO, wide32(refusal));
-            spaced(0);
+            number_text::spaced(0);
         }
     }
-    end_line();
+    number_text::end_line();
 }
 
 // Runs a line, and answers the pool afterwards.

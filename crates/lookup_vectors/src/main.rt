@@ -24,20 +24,11 @@ fn wide32(x: u32) -> u64 {
     x as u64
 }
 
-fn spaced(n: u64) {
-    io::write_all(STDOUT_FILENO, b" ");
-    io::print_decimal(STDOUT_FILENO, n);
-}
-
-fn end_line() {
-    io::write_all(STDOUT_FILENO, b"\n");
-}
-
 // A line of two numbers.
 fn print_pair(a: u64, b: u64) {
     io::print_decimal(STDOUT_FILENO, a);
-    spaced(b);
-    end_line();
+    number_text::spaced(b);
+    number_text::end_line();
 }
 
 // Prints a refusal number that the rules fix for every pool; 0 for any other.
@@ -53,7 +44,7 @@ fn print_fixed(refusal: u32) {
         fixed = 13;
     }
     io::print_decimal(STDOUT_FILENO, fixed);
-    end_line();
+    number_text::end_line();
 }
 
 fn print_owner(refusal: u32, owner: u64, whole: u64) {
@@ -89,7 +80,7 @@ fn point_case(block: u64, probe: u64, range: u64) {
 fn print_owners(owners: &[u16; 8]) {
     let mut i = 0;
     while i < 8 {
-        spaced(wide16(owners[i]));
+        number_text::spaced(wide16(owners[i]));
         i += 1;
     }
 }
@@ -99,10 +90,10 @@ fn print_copies(answer: CopiesAnswer) {
     let counters = answer.counters;
     io::print_decimal(STDOUT_FILENO, wide32(answer.refusal));
     print_owners(&owners);
-    spaced(wide32(answer.probes));
-    spaced(wide32(counters.lookups));
-    spaced(wide32(counters.probes));
-    end_line();
+    number_text::spaced(wide32(answer.probes));
+    number_text::spaced(wide32(counters.lookups));
+    number_text::spaced(wide32(counters.probes));
+    number_text::end_line();
 }
 
 fn copies_case(pool: Pool, numbers: &[u64; 16384]) {

@@ -1,6 +1,8 @@
-// Lines of decimal numbers, read from standard input in pieces of 65,536 bytes. Any other byte parts two
-// numbers, and a line feed ends the line. A number that does not fit is the largest that does.
+// Lines of decimal numbers: read from standard input in pieces of 65,536 bytes, and printed. Of what is
+// read, any other byte parts two numbers, and a line feed ends the line. A number that does not fit is the
+// largest that does.
 use libc::STDIN_FILENO;
+use libc::STDOUT_FILENO;
 ghost use mathlib.Core.Path.{_≡_};
 ghost use Prim.Native.Nat.{_+_, _*_, _≤_, min};
 
@@ -131,4 +133,15 @@ pub fn read_line(input: Input, piece: &mut [u8; 65536], numbers: &mut [u64; 1638
         left -= 1;
     }
     next
+}
+
+// Prints a further number of a line.
+pub fn spaced(n: u64) {
+    io::write_all(STDOUT_FILENO, b" ");
+    io::print_decimal(STDOUT_FILENO, n);
+}
+
+// Ends a printed line.
+pub fn end_line() {
+    io::write_all(STDOUT_FILENO, b"\n");
 }

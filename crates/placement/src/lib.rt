@@ -5,7 +5,7 @@ mod arrays;
 mod change;
 mod list;
 mod settle;
-mod valid;
+pub mod valid;
 
 pub use change::add;
 pub use change::fresh;

@@ -1,0 +1,113 @@
+-- Bytes put behind one another: what stands in a buffer after a number is stored in it.
+--
+-- put-one (one byte), front-put (bytes behind those that are done), put-halves (a number in two halves); bytes-halves
+-- head-put (the numbers of the head behind one another)
+-- pairBytes-snoc, length-pairBytes, pairBytes-put (one row more)
+use mathlib.Core.Path.{_≡_, refl, sym, ap, ap₂, _∙_, subst}
+use mathlib.Core.List.{List, [], _∷_, _++_, append-assoc, append-nil}
+use Prim.Native.Nat.{ℕ, zero, suc, _+_, _*_, _/_, _%_, _^_, _≤_, _<_}
+use native.Mathlib.Omega.{arith}
+use native.Mathlib.Nat.{zero-add, add-zero}
+use native.Mathlib.Numerals.{add-one}
+use lib.ListN.{length, set, take, drop, length-append, length-take, take-append-drop}
+use lib.Seq.{append-snoc, set-split, take-at, drop-append-add, drop-drop}
+use Rattle.sha1.specs.Fips180.{bytes}
+use Rattle.sha1.proofs.TwelveBytes.{bytes-append}
+use Rattle.slicing_core.specs.Rows.{at}
+use Rattle.images.specs.Format.{mark, version, headSize, head}
+use Rattle.images.specs.RowBytes.{pairBytes}
+use Rattle.images.proofs.ByteNumbers.{bytes-low}
+use Rattle.images.proofs.ImageSizes.{length-bytes}
+
+-- one byte put at place i
+pub put-one : (before : List ℕ) (i x : ℕ) → i < length before → x < 256 → set before i x ≡ take i before ++ bytes 1 x ++ drop (i + 1) before
+put-one before i x h b =
+    let e : x / 1 % 256 ≡ x = omega arith in
+    let after : List ℕ = drop (i + 1) before in
+    set-split before i x h ∙ sym (ap (λ y. take i before ++ (y ∷ []) ++ after) e ∙ append-snoc (take i before) x after ∙ rw add-one)
+
+-- k bytes put at place i, behind what is done
+pub front-put : (before done xs after after' : List ℕ) (i k : ℕ) → length done ≡ i → after ≡ done ++ drop i before
+    → after' ≡ take i after ++ xs ++ drop (i + k) after → after' ≡ (done ++ xs) ++ drop (i + k) before
+front-put before done xs after after' i k l e f =
+    f ∙ rw (e, take-at done (drop i before) i l, skip)
+  where
+    skip : drop (i + k) (done ++ drop i before) ≡ drop (i + k) before
+    skip =
+        subst (λ (j : ℕ). drop (j + k) (done ++ drop i before) ≡ drop (i + k) before) l
+        (drop-append-add done (drop i before) k ∙ drop-drop k i before)
+
+-- two halves of k bytes, put at places i and i + k
+pub put-halves : (before xs ys after after' : List ℕ) (i k : ℕ) → length xs ≡ k → i ≤ length before
+    → after ≡ take i before ++ xs ++ drop (i + k) before → after' ≡ take (i + k) after ++ ys ++ drop (i + k + k) after
+    → after' ≡ take i before ++ (xs ++ ys) ++ drop (i + (k + k)) before
+put-halves before xs ys after after' i k l h e f =
+    let n : length (take i before) ≡ i = omega (arith, length-take i before) in
+    let m : length (take i before ++ xs) ≡ i + k = omega (arith, length-append (take i before) xs) in
+    let d : i + k + k ≡ i + (k + k) = omega arith in
+    let first = front-put before (take i before) xs before after i k n (sym (take-append-drop i before)) e in
+    let second = front-put before (take i before ++ xs) ys after after' (i + k) k m first f in
+    second ∙ rw (d, append-assoc (take i before) xs ys)
+
+-- a number's bytes are those of its high half and of its low half
+pub bytes-halves : (k x : ℕ) → bytes k (x / 2 ^ (8 * k)) ++ bytes k (x % 2 ^ (8 * k)) ≡ bytes (k + k) x
+bytes-halves k x = ap (λ ys. bytes k (x / 2 ^ (8 * k)) ++ ys) (bytes-low k x) ∙ sym (bytes-append k k x)
+
+-- ---- the head
+
+pub head-put : (R M n q : ℕ) (b0 b1 b2 b3 b4 b5 b6 b7 : List ℕ) → b1 ≡ take 0 b0 ++ bytes 2 (mark / 256) ++ drop 2 b0
+    → b2 ≡ take 2 b1 ++ bytes 1 (mark % 256) ++ drop 3 b1 → b3 ≡ take 3 b2 ++ bytes 2 version ++ drop 5 b2 → b4 ≡ take 5 b3 ++ bytes 8 R ++ drop 13 b3
+    → b5 ≡ take 13 b4 ++ bytes 2 M ++ drop 15 b4 → b6 ≡ take 15 b5 ++ bytes 2 n ++ drop 17 b5 → b7 ≡ take 17 b6 ++ bytes 2 q ++ drop 19 b6
+    → b7 ≡ head R M n q ++ drop headSize b0
+head-put R M n q b0 b1 b2 b3 b4 b5 b6 b7 e1 e2 e3 e4 e5 e6 e7 =
+    let d1 : List ℕ = bytes 2 (mark / 256) in
+    let d2 : List ℕ = d1 ++ bytes 1 (mark % 256) in
+    let d3 : List ℕ = d2 ++ bytes 2 version in
+    let d4 : List ℕ = d3 ++ bytes 8 R in
+    let d5 : List ℕ = d4 ++ bytes 2 M in
+    let d6 : List ℕ = d5 ++ bytes 2 n in
+    let f1 = front-put b0 [] (bytes 2 (mark / 256)) b0 b1 0 2 refl refl e1 in
+    let f2 = front-put b0 d1 (bytes 1 (mark % 256)) b1 b2 2 1 refl f1 e2 in
+    let f3 = front-put b0 d2 (bytes 2 version) b2 b3 3 2 refl f2 e3 in
+    let f4 = front-put b0 d3 (bytes 8 R) b3 b4 5 8 refl f3 e4 in
+    let f5 = front-put b0 d4 (bytes 2 M) b4 b5 13 2 refl f4 e5 in
+    let f6 = front-put b0 d5 (bytes 2 n) b5 b6 15 2 refl f5 e6 in
+    front-put b0 d6 (bytes 2 q) b6 b7 17 2 refl f6 e7
+
+-- ---- rows
+
+pub length-pairBytes : (a b : ℕ) (xs ys : List ℕ) (i n : ℕ) → a + b ≡ 6 → length (pairBytes a b xs ys i n) ≡ 6 * n
+length-pairBytes a b xs ys i zero w = refl
+length-pairBytes a b xs ys i (suc n) w =
+    let row : List ℕ = bytes a (at xs i) ++ bytes b (at ys i) in
+    omega (
+      arith,
+      length-append row (pairBytes a b xs ys (suc i) n),
+      length-append (bytes a (at xs i)) (bytes b (at ys i)),
+      length-bytes a (at xs i),
+      length-bytes b (at ys i),
+      length-pairBytes a b xs ys (suc i) n w,
+    )
+
+pub pairBytes-snoc : (a b : ℕ) (xs ys : List ℕ) (i n : ℕ)
+    → pairBytes a b xs ys i (n + 1) ≡ pairBytes a b xs ys i n ++ bytes a (at xs (i + n)) ++ bytes b (at ys (i + n))
+pairBytes-snoc a b xs ys i zero = rw (append-nil, add-zero)
+pairBytes-snoc a b xs ys i (suc n) =
+    let e : suc n + 1 ≡ suc (n + 1) = omega arith in
+    let f : i + suc n ≡ suc i + n = omega arith in
+    rw (e, f, pairBytes-snoc a b xs ys (suc i) n) (simp append-assoc)
+
+-- one row more: x in a bytes and y in b bytes, put behind i rows
+pub pairBytes-put : (a b : ℕ) (xs ys before after middle after' : List ℕ) (i x y : ℕ) → a + b ≡ 6 → x ≡ at xs i → y ≡ at ys i
+    → after ≡ pairBytes a b xs ys 0 i ++ drop (6 * i) before
+    → middle ≡ take (6 * i) after ++ bytes a x ++ drop (6 * i + a) after
+    → after' ≡ take (6 * i + a) middle ++ bytes b y ++ drop (6 * i + a + b) middle
+    → after' ≡ pairBytes a b xs ys 0 (i + 1) ++ drop (6 * (i + 1)) before
+pairBytes-put a b xs ys before after middle after' i x y w e f h m n =
+    let done : List ℕ = pairBytes a b xs ys 0 i in
+    let l : length done ≡ 6 * i = length-pairBytes a b xs ys 0 i w in
+    let k : length (done ++ bytes a x) ≡ 6 * i + a = length-append done (bytes a x) ∙ ap₂ (λ p q. p + q) l (length-bytes a x) in
+    let d : 6 * i + a + b ≡ 6 * (i + 1) = omega arith in
+    let first = front-put before done (bytes a x) after middle (6 * i) a l h m in
+    let second = front-put before (done ++ bytes a x) (bytes b y) middle after' (6 * i + a) b k first n in
+    second ∙ rw (d, e, f, pairBytes-snoc a b xs ys 0 i, zero-add)

@@ -1,0 +1,10 @@
+pub mod ImageSizes
+pub mod ByteNumbers
+pub mod ImageLaws
+pub mod ReadColumns
+pub mod PoolsRead
+pub mod ReadAnswers
+pub mod Fronts
+pub mod WrittenImages
+pub mod RoundTrips
+pub mod ImageLists

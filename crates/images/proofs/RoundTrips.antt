@@ -1,0 +1,83 @@
+-- Read and write together, on what the calls answer.
+--
+--   read-accepted     an accepted image is one, and the pool is that of its state
+--   image-accepted    the image of a valid pool is read as that pool
+--   accepted-state, accepted-valid, accepted-image    what is read is the image of a valid pool
+--   read-written      an accepted image, written into a buffer of its length, gives the same bytes
+--   written-read      a valid pool, written and read, gives the same pool
+--   images-differ     two valid pools with one image are one
+use mathlib.Core.Path.{_≡_, refl, sym, ap, _∙_, subst}
+use mathlib.Core.Bool.{true, false, false≢true}
+use mathlib.Core.List.{List, append-nil}
+use Prim.Native.Nat.{ℕ, _≤_}
+use native.Mathlib.Omega.{arith}
+use lib.ListN.{length, take, drop, drop-of-length-le}
+use lib.Seq.{take-at}
+use borrow.Author.Tests.{le-ltb}
+use Rattle.placement.specs.Pools.{stateOf, poolOf, ValidPool}
+use Rattle.placement.specs.declared.Pool.{Pool}
+use Rattle.placement.specs.declared.PoolAnswer.{PoolAnswer}
+use Rattle.placement.proofs.PoolLaws.{stateOf-poolOf, validPool-poolOf}
+use Rattle.images.specs.Format.{imageOf, stateIn, Image}
+use Rattle.images.specs.Promises.{refusal, ReadAs, unmarked, versioned, faulty, accepted, WrittenAs}
+use Rattle.images.specs.declared.WriteAnswer.{WriteAnswer}
+use Rattle.images.specs.declared.WriteAnswer.the-variants.{Written}
+use Rattle.images.proofs.ByteNumbers.{Bytes}
+use Rattle.images.proofs.ImageLaws.{imageOf-stateIn, stateIn-imageOf, image-imageOf, imageOf-injective}
+
+pub record Accepted (xs : List ℕ) (r : PoolAnswer) : Type 0 where
+  pub image : Image xs
+  pub pool : r .pool ≡ poolOf (stateIn xs)
+
+pub read-accepted : (xs : List ℕ) (r : PoolAnswer) → ReadAs xs r → r .refusal ≡ 0 → Accepted xs r
+read-accepted xs r (unmarked h e) z = absurd (omega (arith, z, ap (λ a. a .refusal) e))
+read-accepted xs r (versioned h v e) z = absurd (omega (arith, z, ap (λ a. a .refusal) e))
+read-accepted xs r (faulty h v s e) z = absurd (omega (arith, z, ap (λ a. a .refusal) e))
+read-accepted xs r (accepted i e) z = record { image = i; pool = ap (λ a. a .pool) e }
+
+-- an image is read as its state's pool
+pub image-read : (xs : List ℕ) (r : PoolAnswer) → ReadAs xs r → Image xs → r ≡ record { refusal = 0; pool = poolOf (stateIn xs) }
+image-read xs r (unmarked h e) i = absurd (false≢true (sym h ∙ i .first))
+image-read xs r (versioned h v e) i = absurd (v (i .second))
+image-read xs r (faulty h v s e) i = absurd (s (i .sound))
+image-read xs r (accepted j e) i = e
+
+pub image-accepted : (p : Pool) → ValidPool p → (r : PoolAnswer) → ReadAs (imageOf (stateOf p)) r → r ≡ record { refusal = 0; pool = p }
+image-accepted p v r a =
+    image-read (imageOf (stateOf p)) r a (image-imageOf (stateOf p) (v .valid))
+    ∙ ap (λ (q : Pool). record { refusal = 0; pool = q }) (ap poolOf (stateIn-imageOf (stateOf p) (v .valid)) ∙ v .same)
+
+module _ (xs : List ℕ) (r : PoolAnswer) (a : ReadAs xs r) (z : r .refusal ≡ 0) where
+  found : Accepted xs r
+  found = read-accepted xs r a z
+
+  pub accepted-state : stateOf (r .pool) ≡ stateIn xs
+  accepted-state = ap stateOf (found .pool) ∙ stateOf-poolOf (stateIn xs) (found .image .sound .valid)
+
+  pub accepted-valid : ValidPool (r .pool)
+  accepted-valid = subst ValidPool (sym (found .pool)) (validPool-poolOf (stateIn xs) (found .image .sound .valid))
+
+-- the elements of a slice of bytes are below 256
+module _ (xs : List ℕ) (b : Bytes xs) (r : PoolAnswer) (a : ReadAs xs r) (z : r .refusal ≡ 0) where
+  pub accepted-image : imageOf (stateOf (r .pool)) ≡ xs
+  accepted-image = ap imageOf (accepted-state xs r a z) ∙ imageOf-stateIn xs b (read-accepted xs r a z .image)
+
+  pub read-written : (buffer : List ℕ) → length buffer ≡ length xs → (w : WriteAnswer) (after : List ℕ) → WrittenAs (r .pool) buffer w after
+      → (w ≡ Written (length xs)) × (after ≡ xs)
+  read-written buffer l w after h =
+      let k = h .valid (accepted-valid xs r a z) in
+      let e = le-ltb (length buffer) (length xs) (omega arith) in
+      (k .0 ∙ rw (accepted-image, e), k .1 ∙ rw (accepted-image, e, drop-of-length-le buffer {i = length xs} (omega arith), append-nil))
+
+pub written-read : (p : Pool) → ValidPool p → (buffer : List ℕ) → length (imageOf (stateOf p)) ≤ length buffer → (w : WriteAnswer) (after : List ℕ)
+    → WrittenAs p buffer w after → (r : PoolAnswer) → ReadAs (take (length (imageOf (stateOf p))) after) r
+    → (w ≡ Written (length (imageOf (stateOf p)))) × (r ≡ record { refusal = 0; pool = p })
+written-read p v buffer l w after h r a =
+    let k = h .valid v in
+    let n : ℕ = length (imageOf (stateOf p)) in
+    let e = le-ltb (length buffer) n l in
+    let front : take n after ≡ imageOf (stateOf p) = ap (take n) (k .1 ∙ rw e) ∙ take-at (imageOf (stateOf p)) (drop n buffer) n refl in
+    (k .0 ∙ rw e, image-accepted p v r (subst (λ (xs : List ℕ). ReadAs xs r) front a))
+
+pub images-differ : (p q : Pool) → ValidPool p → ValidPool q → imageOf (stateOf p) ≡ imageOf (stateOf q) → p ≡ q
+images-differ p q v w e = sym (v .same) ∙ ap poolOf (imageOf-injective (stateOf p) (stateOf q) (v .valid) (w .valid) e) ∙ w .same

@@ -1,0 +1,116 @@
+-- What `put_image` and `write` need: a pool's image from its arrays, and the parts of a buffer.
+--
+-- part-put (rows written into the rest of a buffer), part-room (what is left then)
+-- imageOf-pool, image-size, image-put
+-- WrittenAs: written-invalid, written-short, written-whole
+use mathlib.Core.Path.{_≡_, refl, sym, ap, _∙_}
+use mathlib.Core.List.{List, [], _++_, append-assoc, append-nil}
+use Prim.Native.Nat.{ℕ, zero, suc, _+_, _*_, _-_, _≤_, _<_}
+use native.Mathlib.Omega.{arith}
+use lib.ListN.{length, take, drop, length-append, length-take, length-drop, drop-of-length-le}
+use lib.Seq.{take-at, drop-at, take-all, drop-drop}
+use borrow.Rule.Slice.PartMut.{same-len-mid}
+use borrow.Author.Tests.{lt-ltb, le-ltb}
+use Rattle.placement.specs.Pools.{stateOf, ValidPool}
+use Rattle.placement.specs.declared.Pool.{Pool}
+use Rattle.placement.proofs.PoolLaws.{length-tableRows}
+use Rattle.placement.proofs.ValidParts.{valid-covered, valid-empty}
+use Rattle.slicing.specs.Runs.{total}
+use Rattle.slicing_core.specs.Rows.{tableRows}
+use Rattle.slicing_core.proofs.Rows.{length-deviceRows}
+use Rattle.images.specs.Format.{headSize, head, imageOf}
+use Rattle.images.specs.Promises.{WrittenAs}
+use Rattle.images.specs.RowBytes.{pairBytes}
+use Rattle.images.specs.declared.WriteAnswer.the-variants.{Written, Refused}
+use Rattle.images.proofs.Fronts.{length-pairBytes}
+use Rattle.images.proofs.ImageLaws.{deviceBytes-rows, intervalBytes-rows}
+use Rattle.images.proofs.ImageSizes.{length-head, length-imageOf}
+
+-- k bytes written into the rest of a buffer from place i on, behind what is done
+pub part-put : (before done xs after part : List ℕ) (i k : ℕ) → length done ≡ i → after ≡ done ++ drop i before
+    → part ≡ xs ++ drop k (take (length after - i) (drop i after))
+    → take i after ++ (part ++ drop (length after - i) (drop i after)) ≡ (done ++ xs) ++ drop (i + k) before
+part-put before done xs after part i k l e f =
+    let none : drop (length after - i) (drop i after) ≡ [] = drop-of-length-le (drop i after) {i = length after - i} (omega (arith, length-drop i after)) in
+    let all : take (length after - i) (drop i after) ≡ drop i after = take-all (length after - i) (drop i after) (omega (arith, length-drop i after)) in
+    let rest : drop i after ≡ drop i before = ap (drop i) e ∙ drop-at done (drop i before) i l in
+    let front : take i after ≡ done = ap (take i) e ∙ take-at done (drop i before) i l in
+    rw (none, append-nil, front, f, all, rest, drop-drop k i before) (sym (append-assoc done xs (drop (i + k) before)))
+
+-- the room that is left then
+pub part-room : (after part : List ℕ) (i end k : ℕ) → i ≤ length after → length part ≡ length (take (length after - i) (drop i after))
+    → end + k ≤ length after → let next = take i after ++ (part ++ drop (length after - i) (drop i after)) in
+    k ≤ length (take (length next - end) (drop end next))
+part-room after part i end k h l e =
+    let next : List ℕ = take i after ++ (part ++ drop (length after - i) (drop i after)) in
+    let same : length next ≡ length after = same-len-mid i (length after - i) after part l in
+    omega (arith, length-take (length next - end) (drop end next), length-drop end next)
+
+-- ---- the image of a pool
+
+module _ (p : Pool) (v : ValidPool p) where
+  abbrev n : ℕ
+  n = p .devices
+
+  abbrev q : ℕ
+  q = p .intervals
+
+  covers : 1 ≤ q → total (tableRows (p .starts) (p .owners) (p .range) 0 q) ≡ p .range
+  covers h = go (p .devices) refl
+    where
+      go : (k : ℕ) → p .devices ≡ k → total (tableRows (p .starts) (p .owners) (p .range) 0 q) ≡ p .range
+      go zero e = absurd (omega (arith, valid-empty p v e))
+      go (suc k) e = valid-covered p v (omega arith) .covers
+
+  pub imageOf-pool : imageOf (stateOf p)
+      ≡ head (p .range) (p .limit) n q ++ pairBytes 2 4 (p .ids) (p .capacities) 0 n ++ pairBytes 4 2 (p .starts) (p .owners) 0 q
+  unfolding imageOf stateOf
+  imageOf-pool =
+      rw (
+        length-deviceRows (p .ids) (p .capacities) 0 n,
+        length-tableRows (p .starts) (p .owners) (p .range) 0 q,
+        deviceBytes-rows (p .ids) (p .capacities) 0 n,
+        intervalBytes-rows (p .starts) (p .owners) (p .range) q (v .valid .coalesced) covers,
+      )
+
+  pub image-size : length (imageOf (stateOf p)) ≡ headSize + 6 * n + 6 * q
+  unfolding stateOf
+  image-size =
+      omega (
+        arith,
+        length-imageOf (stateOf p),
+        length-deviceRows (p .ids) (p .capacities) 0 n,
+        length-tableRows (p .starts) (p .owners) (p .range) 0 q,
+      )
+
+  -- the head, and the rows in what is left behind it
+  pub image-put : (b0 b1 d i : List ℕ) → b1 ≡ head (p .range) (p .limit) n q ++ drop headSize b0
+      → d ≡ pairBytes 2 4 (p .ids) (p .capacities) 0 n ++ drop (6 * n) (take (length b1 - headSize) (drop headSize b1))
+      → let b2 = take headSize b1 ++ (d ++ drop (length b1 - headSize) (drop headSize b1)) in
+      let end = headSize + 6 * n in
+      i ≡ pairBytes 4 2 (p .starts) (p .owners) 0 q ++ drop (6 * q) (take (length b2 - end) (drop end b2))
+      → take end b2 ++ (i ++ drop (length b2 - end) (drop end b2)) ≡ imageOf (stateOf p) ++ drop (length (imageOf (stateOf p))) b0
+  image-put b0 b1 d i e f g =
+      let first : List ℕ = head (p .range) (p .limit) n q in
+      let second : List ℕ = pairBytes 2 4 (p .ids) (p .capacities) 0 n in
+      let third : List ℕ = pairBytes 4 2 (p .starts) (p .owners) 0 q in
+      let b2 : List ℕ = take headSize b1 ++ (d ++ drop (length b1 - headSize) (drop headSize b1)) in
+      let l : length (first ++ second) ≡ headSize + 6 * n =
+      omega (arith, length-append first second, length-head (p .range) (p .limit) n q, length-pairBytes 2 4 (p .ids) (p .capacities) 0 n refl) in
+      let h = part-put b0 first second b1 d headSize (6 * n) (length-head (p .range) (p .limit) n q) e f in
+      part-put b0 (first ++ second) third b2 i (headSize + 6 * n) (6 * q) l h g
+      ∙ rw (image-size, imageOf-pool)
+
+  pub written-short : (before : List ℕ) → length before < headSize + 6 * n + 6 * q → WrittenAs p before (Refused 17) before
+  written-short before h =
+      let e = lt-ltb (length before) (length (imageOf (stateOf p))) (omega (arith, image-size)) in
+      record { valid = λ k. (rw e, rw e); invalid = λ k. absurd (k v) }
+
+  pub written-whole : (before after : List ℕ) → headSize + 6 * n + 6 * q ≤ length before
+      → after ≡ imageOf (stateOf p) ++ drop (length (imageOf (stateOf p))) before → WrittenAs p before (Written (headSize + 6 * n + 6 * q)) after
+  written-whole before after h a =
+      let e = le-ltb (length before) (length (imageOf (stateOf p))) (omega (arith, image-size)) in
+      record { valid = λ k. (rw (e, image-size), rw e a); invalid = λ k. absurd (k v) }
+
+pub written-invalid : (p : Pool) → (ValidPool p → ⊥) → (before : List ℕ) → WrittenAs p before (Refused 2) before
+written-invalid p h before = record { valid = λ k. absurd (h k); invalid = λ k. (refl, refl) }

@@ -1,0 +1,34 @@
+-- `images::numbers::put2` meets its contract: the bytes of the quotient, then those of the remainder.
+use mathlib.Core.Path.{refl, ap, _∙_}
+use mathlib.Core.List.{_++_}
+use Prim.Native.Nat.{_+_, _/_, _%_}
+use lib.ListN.{take, drop}
+use Rattle.sha1.specs.Fips180.{bytes}
+use native.Mathlib.Omega.{arith}
+use borrow.Author.Needs.{needs}
+use Rattle.images.proofs.Fronts.{put-halves, bytes-halves}
+use Rattle.images.proofs.numbers.put2.Statement.{statement}
+use Rattle.images.proofs.numbers.put2.Tie as tie
+
+put1-requires : tie.Need-put1-requires
+put1-requires c κs = search needs
+
+add-put1 : tie.Need-add-put1
+add-put1 c = search needs
+
+put1-requires-2 : tie.Need-put1-requires-2
+put1-requires-2 c κs = search needs
+
+same-length : tie.Need-same-length
+same-length c = search needs
+
+returns : tie.Need-returns
+returns c =
+    let first = c .before .before .before .before .before .before in
+    let a = first .before .before .before .args in
+    let b = a .buffer .now in
+    put-halves b (bytes 1 (a .x / 256)) (bytes 1 (a .x % 256)) _ _ (a .i) 1 refl (omega arith) (first .put1 .ensures) (c .before .before .put12 .ensures)
+    ∙ ap (λ xs. take (a .i) b ++ xs ++ drop (a .i + 2) b) (bytes-halves 1 (a .x))
+
+pub put2-spec : {M : Type 1} → statement M
+put2-spec = tie.close (tie.spec put1-requires add-put1 put1-requires-2 same-length returns)

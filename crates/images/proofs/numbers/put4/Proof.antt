@@ -1,0 +1,34 @@
+-- `images::numbers::put4` meets its contract: the bytes of the quotient, then those of the remainder.
+use mathlib.Core.Path.{refl, ap, _∙_}
+use mathlib.Core.List.{_++_}
+use Prim.Native.Nat.{_+_, _/_, _%_}
+use lib.ListN.{take, drop}
+use Rattle.sha1.specs.Fips180.{bytes}
+use native.Mathlib.Omega.{arith}
+use borrow.Author.Needs.{needs}
+use Rattle.images.proofs.Fronts.{put-halves, bytes-halves}
+use Rattle.images.proofs.numbers.put4.Statement.{statement}
+use Rattle.images.proofs.numbers.put4.Tie as tie
+
+put2-requires : tie.Need-put2-requires
+put2-requires c κs = search needs
+
+add-put2 : tie.Need-add-put2
+add-put2 c = search needs
+
+put2-requires-2 : tie.Need-put2-requires-2
+put2-requires-2 c κs = search needs
+
+same-length : tie.Need-same-length
+same-length c = search needs
+
+returns : tie.Need-returns
+returns c =
+    let first = c .before .before .before .before .before .before in
+    let a = first .before .before .before .args in
+    let b = a .buffer .now in
+    put-halves b (bytes 2 (a .x / 65536)) (bytes 2 (a .x % 65536)) _ _ (a .i) 2 refl (omega arith) (first .put2 .ensures) (c .before .before .put22 .ensures)
+    ∙ ap (λ xs. take (a .i) b ++ xs ++ drop (a .i + 4) b) (bytes-halves 2 (a .x))
+
+pub put4-spec : {M : Type 1} → statement M
+put4-spec = tie.close (tie.spec put2-requires add-put2 put2-requires-2 same-length returns)

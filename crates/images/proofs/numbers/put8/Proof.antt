@@ -1,0 +1,34 @@
+-- `images::numbers::put8` meets its contract: the bytes of the quotient, then those of the remainder.
+use mathlib.Core.Path.{refl, ap, _∙_}
+use mathlib.Core.List.{_++_}
+use Prim.Native.Nat.{_+_, _/_, _%_}
+use lib.ListN.{take, drop}
+use Rattle.sha1.specs.Fips180.{bytes}
+use native.Mathlib.Omega.{arith}
+use borrow.Author.Needs.{needs}
+use Rattle.images.proofs.Fronts.{put-halves, bytes-halves}
+use Rattle.images.proofs.numbers.put8.Statement.{statement}
+use Rattle.images.proofs.numbers.put8.Tie as tie
+
+put4-requires : tie.Need-put4-requires
+put4-requires c κs = search needs
+
+add-put4 : tie.Need-add-put4
+add-put4 c = search needs
+
+put4-requires-2 : tie.Need-put4-requires-2
+put4-requires-2 c κs = search needs
+
+same-length : tie.Need-same-length
+same-length c = search needs
+
+returns : tie.Need-returns
+returns c =
+    let first = c .before .before .before .before .before .before in
+    let a = first .before .before .before .args in
+    let b = a .buffer .now in
+    put-halves b (bytes 4 (a .x / 4294967296)) (bytes 4 (a .x % 4294967296)) _ _ (a .i) 4 refl (omega arith) (first .put4 .ensures) (c .before .before .put42 .ensures)
+    ∙ ap (λ xs. take (a .i) b ++ xs ++ drop (a .i + 8) b) (bytes-halves 4 (a .x))
+
+pub put8-spec : {M : Type 1} → statement M
+put8-spec = tie.close (tie.spec put4-requires add-put4 put4-requires-2 same-length returns)

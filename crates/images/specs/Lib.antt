@@ -1,0 +1,4 @@
+pub mod Format
+pub mod RowBytes
+pub mod Promises
+pub mod ImageLedger
