@@ -35,8 +35,8 @@ fn narrow8(x: u64) -> u8 {
 }
 
 // Stores the numbers of a line, from one place up to another, as bytes, and answers how many.
-fn load(bytes: &mut [u8; SIZE], numbers: &[u64; 16384], from: usize, to: usize) -> usize
-    requires { ⌜ (from ≤ to) × (to ≤ 16384) ⌝ }
+fn load(bytes: &mut [u8], numbers: &[u64; 16384], from: usize, to: usize) -> usize
+    requires { ⌜ (from ≤ to) × (to ≤ 16384) × (16384 ≤ length (now bytes)) ⌝ }
     ensures { λ r. ⌜ r ≤ 16384 ⌝ }
 {
     let mut n = 0;
@@ -47,8 +47,9 @@ fn load(bytes: &mut [u8; SIZE], numbers: &[u64; 16384], from: usize, to: usize) 
     n
 }
 
-fn print_bytes(bytes: &[u8], n: usize)
-    requires { ⌜ n ≤ length (now bytes) ⌝ }
+// Prints the first n bytes.
+fn print_bytes(bytes: &[u8; SIZE], n: usize)
+    requires { ⌜ n ≤ 32768 ⌝ }
 {
     let mut i = 0;
     while i < n {
@@ -57,11 +58,9 @@ fn print_bytes(bytes: &[u8], n: usize)
     }
 }
 
-// Prints the five words of the digest of the first n bytes.
-fn print_digest(bytes: &[u8], n: usize)
-    requires { ⌜ n ≤ length (now bytes) ⌝ }
-{
-    let answer = sha1::digest(&bytes[..n]);
+// Prints the five words of the digest of some bytes.
+fn print_digest(bytes: &[u8]) {
+    let answer = sha1::digest(bytes);
     let words = answer.words;
     let mut i = 0;
     while i < 5 {
@@ -116,14 +115,15 @@ fn write_case(bytes: &[u8], size: usize)
 fn pool_case(pool: Pool) {
     let mut buffer = [170u8; SIZE];
     let n = pool_text::least(print_written(pool, &mut buffer) as u64, SIZE);
-    print_digest(&buffer, SIZE);
+    print_digest(&buffer);
     let answer = images::read(&buffer[..n]);
     let read = answer.pool;
     let mut again = [170u8; SIZE];
     number_text::spaced(wide32(answer.refusal));
     match images::write(read, &mut again) {
         WriteAnswer::Written(m) => {
-            print_digest(&again, pool_text::least(m as u64, SIZE));
+            let size = pool_text::least(m as u64, SIZE);
+            print_digest(&again[..size]);
         }
         WriteAnswer::Refused(refusal) => {
             number_text::spaced(wide32(refusal));

@@ -1,19 +1,20 @@
 -- Bytes put behind one another: what stands in a buffer after a number is stored in it.
 --
--- put-one (one byte), front-put (bytes behind those that are done), put-halves (a number in two halves); bytes-halves
+-- put-one (one byte), put-halves (a number in two halves); bytes-halves
 -- head-put (the numbers of the head behind one another)
 -- pairBytes-snoc, length-pairBytes, pairBytes-put (one row more)
-use mathlib.Core.Path.{_≡_, refl, sym, ap, ap₂, _∙_, subst}
+use mathlib.Core.Path.{_≡_, refl, sym, ap, ap₂, _∙_}
 use mathlib.Core.List.{List, [], _∷_, _++_, append-assoc, append-nil}
 use Prim.Native.Nat.{ℕ, zero, suc, _+_, _*_, _/_, _%_, _^_, _≤_, _<_}
 use native.Mathlib.Omega.{arith}
 use native.Mathlib.Nat.{zero-add, add-zero}
 use native.Mathlib.Numerals.{add-one}
 use lib.ListN.{length, set, take, drop, length-append, length-take, take-append-drop}
-use lib.Seq.{append-snoc, set-split, take-at, drop-append-add, drop-drop}
+use lib.Seq.{append-snoc, set-split}
 use Rattle.sha1.specs.Fips180.{bytes}
 use Rattle.sha1.proofs.TwelveBytes.{bytes-append}
 use Rattle.slicing_core.specs.Rows.{at}
+use Rattle.slicing_core.proofs.Fronts.{front-put}
 use Rattle.images.specs.Format.{mark, version, headSize, head}
 use Rattle.images.specs.RowBytes.{pairBytes}
 use Rattle.images.proofs.ByteNumbers.{bytes-low}
@@ -25,17 +26,6 @@ put-one before i x h b =
     let e : x / 1 % 256 ≡ x = omega arith in
     let after : List ℕ = drop (i + 1) before in
     set-split before i x h ∙ sym (ap (λ y. take i before ++ (y ∷ []) ++ after) e ∙ append-snoc (take i before) x after ∙ rw add-one)
-
--- k bytes put at place i, behind what is done
-pub front-put : (before done xs after after' : List ℕ) (i k : ℕ) → length done ≡ i → after ≡ done ++ drop i before
-    → after' ≡ take i after ++ xs ++ drop (i + k) after → after' ≡ (done ++ xs) ++ drop (i + k) before
-front-put before done xs after after' i k l e f =
-    f ∙ rw (e, take-at done (drop i before) i l, skip)
-  where
-    skip : drop (i + k) (done ++ drop i before) ≡ drop (i + k) before
-    skip =
-        subst (λ (j : ℕ). drop (j + k) (done ++ drop i before) ≡ drop (i + k) before) l
-        (drop-append-add done (drop i before) k ∙ drop-drop k i before)
 
 -- two halves of k bytes, put at places i and i + k
 pub put-halves : (before xs ys after after' : List ℕ) (i k : ℕ) → length xs ≡ k → i ≤ length before

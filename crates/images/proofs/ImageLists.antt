@@ -1,43 +1,26 @@
 -- Demand 3 from an image: of every list of calls that kept their promises, from the pool that an accepted image gives.
 --
---   intervals-rows    the intervals of a table are those that an image's rows give
 --   calls-image       demand 3, with the ledger taken from the image's rows
-use mathlib.Core.Path.{_≡_, refl, sym, ap, _∙_, subst}
-use mathlib.Core.List.{List, _∷_}
-use Prim.Native.Nat.{ℕ, zero, suc, _+_, _-_, _≤_}
+use mathlib.Core.Path.{_≡_, subst}
+use mathlib.Core.List.{List}
+use Prim.Native.Nat.{ℕ, _≤_}
 use native.Mathlib.Omega.{arith}
-use lib.Dec.{eqb}
 use lib.ListN.{length}
 use Rattle.placement.specs.CallLists.{Step, Kept, callsOf, Seen}
 use Rattle.placement.specs.declared.PoolAnswer.{PoolAnswer}
 use Rattle.placement.proofs.CallLists.{calls-valid}
-use Rattle.placement.proofs.PoolLaws.{total-tableRows, length-tableRows}
+use Rattle.placement.proofs.PoolLaws.{length-tableRows, intervals-rows}
 use Rattle.slicing.specs.Changes.{State}
 use Rattle.slicing.specs.Demand3.{Demand3}
 use Rattle.slicing.specs.Ledger.{opened}
-use Rattle.slicing.specs.Runs.{Interval, intervals, total, Coalesced}
+use Rattle.slicing.specs.Runs.{Interval, intervals}
 use Rattle.slicing.specs.Validity.{Valid}
-use Rattle.slicing_core.specs.Rows.{at, tableRows}
+use Rattle.slicing_core.specs.Rows.{tableRows}
 use Rattle.images.specs.Format.{rangeIn, limitIn, intervalsIn, startsIn, ownersIn, stateIn}
-use Rattle.images.specs.ImageLedger.{intervalRows, ledgerIn}
+use Rattle.images.specs.ImageLedger.{ledgerIn}
 use Rattle.images.specs.Promises.{ReadAs}
 use Rattle.images.proofs.ImageLaws.{covered}
 use Rattle.images.proofs.RoundTrips.{read-accepted, accepted-state, accepted-valid}
-
-intervals-from : (p o : List ℕ) (R i n : ℕ) → Coalesced eqb (tableRows p o R i n) → intervals (at p i) (tableRows p o R i n) ≡ intervalRows p o R i n
-intervals-from p o R i zero h = refl
-intervals-from p o R i (suc zero) h = refl
-intervals-from p o R i (suc (suc n)) h =
-    let e : at p i + (at p (suc i) - at p i) ≡ at p (suc i) = omega (arith, h .0) in
-    ap (λ is. record { start = at p i; size = at p (suc i) - at p i; owner = at o i } ∷ is)
-    (ap (λ x. intervals x (tableRows p o R (suc i) (suc n))) e ∙ intervals-from p o R (suc i) (suc n) (h .2))
-
-pub intervals-rows : (p o : List ℕ) (R q : ℕ) → Coalesced eqb (tableRows p o R 0 q) → (1 ≤ q → total (tableRows p o R 0 q) ≡ R)
-    → intervals 0 (tableRows p o R 0 q) ≡ intervalRows p o R 0 q
-intervals-rows p o R zero h t = refl
-intervals-rows p o R (suc q) h t =
-    let e : at p 0 ≡ 0 = omega (arith, t (omega arith), total-tableRows p o R 0 q h) in
-    ap (λ x. intervals x (tableRows p o R 0 (suc q))) (sym e) ∙ intervals-from p o R 0 (suc q) h
 
 pub calls-image : (xs : List ℕ) (r : PoolAnswer) → ReadAs xs r → r .refusal ≡ 0 → (ts : List Step) → Kept (r .pool) ts
     → Seen (stateIn xs) ts × Demand3 (rangeIn xs) (limitIn xs) (stateIn xs) (ledgerIn xs) (callsOf ts)

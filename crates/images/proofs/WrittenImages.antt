@@ -1,15 +1,12 @@
 -- What `put_image` and `write` need: a pool's image from its arrays, and the parts of a buffer.
 --
--- part-put (rows written into the rest of a buffer), part-room (what is left then)
 -- imageOf-pool, image-size, image-put
 -- WrittenAs: written-invalid, written-short, written-whole
-use mathlib.Core.Path.{_≡_, refl, sym, ap, _∙_}
-use mathlib.Core.List.{List, [], _++_, append-assoc, append-nil}
+use mathlib.Core.Path.{_≡_, refl, _∙_}
+use mathlib.Core.List.{List, _++_}
 use Prim.Native.Nat.{ℕ, zero, suc, _+_, _*_, _-_, _≤_, _<_}
 use native.Mathlib.Omega.{arith}
-use lib.ListN.{length, take, drop, length-append, length-take, length-drop, drop-of-length-le}
-use lib.Seq.{take-at, drop-at, take-all, drop-drop}
-use borrow.Rule.Slice.PartMut.{same-len-mid}
+use lib.ListN.{length, take, drop, length-append}
 use borrow.Author.Tests.{lt-ltb, le-ltb}
 use Rattle.placement.specs.Pools.{stateOf, ValidPool}
 use Rattle.placement.specs.declared.Pool.{Pool}
@@ -17,6 +14,7 @@ use Rattle.placement.proofs.PoolLaws.{length-tableRows}
 use Rattle.placement.proofs.ValidParts.{valid-covered, valid-empty}
 use Rattle.slicing.specs.Runs.{total}
 use Rattle.slicing_core.specs.Rows.{tableRows}
+use Rattle.slicing_core.proofs.Fronts.{part-put}
 use Rattle.slicing_core.proofs.Rows.{length-deviceRows}
 use Rattle.images.specs.Format.{headSize, head, imageOf}
 use Rattle.images.specs.Promises.{WrittenAs}
@@ -25,26 +23,6 @@ use Rattle.images.specs.declared.WriteAnswer.the-variants.{Written, Refu
 use Rattle.images.proofs.Fronts.{length-pairBytes}
 use Rattle.images.proofs.ImageLaws.{deviceBytes-rows, intervalBytes-rows}
 use Rattle.images.proofs.ImageSizes.{length-head, length-imageOf}
-
--- k bytes written into the rest of a buffer from place i on, behind what is done
-pub part-put : (before done xs after part : List ℕ) (i k : ℕ) → length done ≡ i → after ≡ done ++ drop i before
-    → part ≡ xs ++ drop k (take (length after - i) (drop i after))
-    → take i after ++ (part ++ drop (length after - i) (drop i after)) ≡ (done ++ xs) ++ drop (i + k) before
-part-put before done xs after part i k l e f =
-    let none : drop (length after - i) (drop i after) ≡ [] = drop-of-length-le (drop i after) {i = length after - i} (omega (arith, length-drop i after)) in
-    let all : take (length after - i) (drop i after) ≡ drop i after = take-all (length after - i) (drop i after) (omega (arith, length-drop i after)) in
-    let rest : drop i after ≡ drop i before = ap (drop i) e ∙ drop-at done (drop i before) i l in
-    let front : take i after ≡ done = ap (take i) e ∙ take-at done (drop i before) i l in
-    rw (none, append-nil, front, f, all, rest, drop-drop k i before) (sym (append-assoc done xs (drop (i + k) before)))
-
--- the room that is left then
-pub part-room : (after part : List ℕ) (i end k : ℕ) → i ≤ length after → length part ≡ length (take (length after - i) (drop i after))
-    → end + k ≤ length after → let next = take i after ++ (part ++ drop (length after - i) (drop i after)) in
-    k ≤ length (take (length next - end) (drop end next))
-part-room after part i end k h l e =
-    let next : List ℕ = take i after ++ (part ++ drop (length after - i) (drop i after)) in
-    let same : length next ≡ length after = same-len-mid i (length after - i) after part l in
-    omega (arith, length-take (length next - end) (drop end next), length-drop end next)
 
 -- ---- the image of a pool
 

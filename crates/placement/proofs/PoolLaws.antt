@@ -1,22 +1,21 @@
 -- The struct Pool and the rules' state: each holds the other, on valid ones.
 --
 -- lists: take-at (a list by its places), padded-zeros (zeros from n on), at-padded
--- rows: ids-rows, capacities-rows, owners-rows, length-tableRows, startsOf-rows (starts that rise from 0 to R)
+-- rows: ids-rows, capacities-rows, owners-rows, length-tableRows, startsOf-rows (starts that rise from 0 to R), intervals-rows
 -- pools: poolOf-parts (a pool is that of its state), stateOf-poolOf, validPool-poolOf
 use mathlib.Core.Path.{_≡_, refl, sym, ap, _∙_, subst}
-use mathlib.Core.Bool.{Bool, true, false}
 use mathlib.Core.List.{List, [], _∷_, _++_}
-use Prim.Native.Nat.{ℕ, zero, suc, _+_, _*_, _-_, _≤_, _<_}
+use Prim.Native.Nat.{ℕ, zero, suc, _+_, _-_, _≤_, _<_}
 use native.Mathlib.Omega.{arith}
 use native.Mathlib.Nat.{zero-add}
 use lib.Dec.{eqb}
 use lib.ListN.{length, getD, take, drop, replicate, length-append, length-replicate, length-take, length-drop, take-append-drop, List·getD-append, getD-replicate}
-use lib.Seq.{ext-getD, getD-drop, getD-take, take-all, take-suc, drop-cons, getD-append-add}
+use lib.Seq.{ext-getD, getD-drop, drop-cons, getD-append-add}
 use Rattle.slicing.specs.Changes.{State}
-use Rattle.slicing.specs.Devices.{Device, device, ids, Rising}
-use Rattle.slicing.specs.Runs.{Run, _of_, total, Differs, Coalesced}
+use Rattle.slicing.specs.Devices.{Device, ids}
+use Rattle.slicing.specs.Runs.{Run, _of_, intervals, total, Coalesced}
 use Rattle.slicing.specs.Validity.{Valid}
-use Rattle.slicing_core.specs.Rows.{at, rows, deviceRows, tableRows}
+use Rattle.slicing_core.specs.Rows.{at, deviceRows, tableRows, intervalRows}
 use Rattle.slicing_core.proofs.Rows.{length-deviceRows}
 use Rattle.placement.specs.declared.Pool.{Pool}
 use Rattle.placement.specs.Pools.{padded, capacitiesOf, startsOf, ownersOf, stateOf, poolOf, ValidPool, Zeros}
@@ -101,6 +100,23 @@ startsOf-rows p o R zero b h t = refl
 startsOf-rows p o R (suc q) b h t =
     let e : at p 0 ≡ 0 = omega (arith, t (omega arith), total-tableRows p o R 0 q h) in
     ap (λ z. startsOf z (tableRows p o R 0 (suc q))) (sym e) ∙ starts-part p o R 0 (suc q) (omega arith) h
+
+-- ---- a table's intervals are those that its rows give
+
+intervals-from : (p o : List ℕ) (R i n : ℕ) → Coalesced eqb (tableRows p o R i n) → intervals (at p i) (tableRows p o R i n) ≡ intervalRows p o R i n
+intervals-from p o R i zero h = refl
+intervals-from p o R i (suc zero) h = refl
+intervals-from p o R i (suc (suc n)) h =
+    let e : at p i + (at p (suc i) - at p i) ≡ at p (suc i) = omega (arith, h .0) in
+    ap (λ is. record { start = at p i; size = at p (suc i) - at p i; owner = at o i } ∷ is)
+    (ap (λ x. intervals x (tableRows p o R (suc i) (suc n))) e ∙ intervals-from p o R (suc i) (suc n) (h .2))
+
+pub intervals-rows : (p o : List ℕ) (R q : ℕ) → Coalesced eqb (tableRows p o R 0 q) → (1 ≤ q → total (tableRows p o R 0 q) ≡ R)
+    → intervals 0 (tableRows p o R 0 q) ≡ intervalRows p o R 0 q
+intervals-rows p o R zero h t = refl
+intervals-rows p o R (suc q) h t =
+    let e : at p 0 ≡ 0 = omega (arith, t (omega arith), total-tableRows p o R 0 q h) in
+    ap (λ x. intervals x (tableRows p o R 0 (suc q))) (sym e) ∙ intervals-from p o R 0 (suc q) h
 
 -- ---- a pool whose unused places are 0 is the pool of its state
 

@@ -13,3 +13,4 @@ pub mod Walking
 pub mod MoveRows
 pub mod JoinedRows
 pub mod Settled
+pub mod Fronts

@@ -6,11 +6,12 @@
 --   turnOf x                a turn as one number, old × 65,536 + new
 --   moveRows p s l i n      n moves from place i: starts in p, sizes in s, turns in l
 --   tableRows p o R i n     n intervals from place i as runs: starts in p, owners in o; each runs to the next start, the last to R
+--   intervalRows p o R i n  the same as intervals
 use mathlib.Core.List.{List, [], _∷_}
 use Prim.Native.Nat.{ℕ, zero, suc, _-_, _/_, _%_}
 use lib.ListN.{getD}
 use Rattle.slicing.specs.Devices.{Device, device}
-use Rattle.slicing.specs.Runs.{Run, _of_}
+use Rattle.slicing.specs.Runs.{Run, _of_, Interval}
 use Rattle.slicing.specs.SixSteps.{Turn, _⟶_, Move, move}
 
 abbrev pub at : List ℕ → ℕ → ℕ
@@ -35,3 +36,9 @@ abbrev pub tableRows : List ℕ → List ℕ → ℕ → ℕ → ℕ → List (R
 tableRows p o R i zero = []
 tableRows p o R i (suc zero) = (R - at p i of at o i) ∷ []
 tableRows p o R i (suc (suc n)) = (at p (suc i) - at p i of at o i) ∷ tableRows p o R (suc i) (suc n)
+
+abbrev pub intervalRows : List ℕ → List ℕ → ℕ → ℕ → ℕ → List Interval
+intervalRows p o R i zero = []
+intervalRows p o R i (suc zero) = record { start = at p i; size = R - at p i; owner = at o i } ∷ []
+intervalRows p o R i (suc (suc n)) =
+    record { start = at p i; size = at p (suc i) - at p i; owner = at o i } ∷ intervalRows p o R (suc i) (suc n)

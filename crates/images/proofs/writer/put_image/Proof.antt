@@ -4,7 +4,8 @@ use Prim.Native.Nat.{_+_, _*_, _-_}
 use lib.ListN.{length, drop, length-take, length-drop}
 use borrow.Author.Needs.{needs}
 use Rattle.placement.proofs.ValidParts.{valid-limited}
-use Rattle.images.proofs.WrittenImages.{part-room, image-put}
+use Rattle.slicing_core.proofs.Fronts.{part-room}
+use Rattle.images.proofs.WrittenImages.{image-put}
 use Rattle.images.proofs.writer.put_image.Statement.{statement}
 use Rattle.images.proofs.writer.put_image.Tie as tie
 

@@ -1,0 +1,57 @@
+-- `image_vectors::main` is safe and ends. The measure is the number of lines that are left.
+use borrow.Author.Needs.{needs}
+use Rattle.image_vectors.proofs.main.Statement.{statement}
+use Rattle.image_vectors.proofs.main.Tie as tie
+
+abbrev Inv-loop : tie.InvT-loop
+Inv-loop piece₀ numbers₀ input₀ left₀ piece numbers input left = Unit {0}
+
+abbrev μ-loop : tie.MeasureT-loop
+μ-loop piece₀ numbers₀ input₀ left₀ piece numbers input left = left
+
+start-requires : tie.Need-start-requires Inv-loop μ-loop
+start-requires c κs = search needs
+
+loop-holds : tie.Need-loop-holds Inv-loop μ-loop
+loop-holds c = search needs
+
+read-line-requires : tie.Need-read-line-requires Inv-loop μ-loop
+read-line-requires c κs = search needs
+
+returns : tie.Need-returns Inv-loop μ-loop
+returns c = search needs
+
+least-requires : tie.Need-least-requires Inv-loop μ-loop
+least-requires c κs = search needs
+
+run-requires : tie.Need-run-requires Inv-loop μ-loop
+run-requires c κs = search needs
+
+sub-left : tie.Need-sub-left Inv-loop μ-loop
+sub-left c = search needs
+
+loop-less : tie.Need-loop-less Inv-loop μ-loop
+loop-less c = search needs
+
+loop-again : tie.Need-loop-again Inv-loop μ-loop
+loop-again c = search needs
+
+returns-2 : tie.Need-returns-2 Inv-loop μ-loop
+returns-2 c = search needs
+
+pub main-spec : {M : Type 1} → statement M
+main-spec =
+    tie.close
+    (tie.spec
+    Inv-loop
+    μ-loop
+    start-requires
+    loop-holds
+    read-line-requires
+    returns
+    least-requires
+    run-requires
+    sub-left
+    loop-less
+    loop-again
+    returns-2)
