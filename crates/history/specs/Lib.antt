@@ -1,0 +1,5 @@
+pub mod Cuts
+pub mod Text
+pub mod Lines
+pub mod Replay
+pub mod Promises

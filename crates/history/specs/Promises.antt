@@ -1,0 +1,69 @@
+-- What the offered calls on history text promise.
+--
+--   settledLine ..        the result of a change line, from an outcome of the rules
+--   rangedLine, appliedLine h f l   the result of a line, f answering the changes
+--   ChangedLine h k r     r answers the change line k on the history h
+--   Applied h xs r        r answers the line xs on the history h
+--   Transcribed xs ..     the answer of a transcript of the text xs, and the buffer afterwards
+use mathlib.Core.Path.{_≡_}
+use mathlib.Core.Bool.{Bool, true, false, cond}
+use mathlib.Core.List.{List, _++_}
+use Prim.Native.Nat.{ℕ}
+use lib.Dec.{ltb}
+use lib.ListN.{length, take, drop}
+use Rattle.placement.specs.Pools.{stateOf, poolOf, ValidPool}
+use Rattle.slicing.specs.Changes.{fresh, Change, add, remove, resize, Outcome, change}
+use Rattle.history.specs.declared.applying.History.{History}
+use Rattle.history.specs.declared.applying.LineResult.{LineResult}
+use Rattle.history.specs.declared.lines.LineAnswer.{LineAnswer}
+use Rattle.history.specs.declared.lines.LineAnswer.the-variants.{Range, Add, Remove, Resize, Refused}
+use Rattle.history.specs.declared.transcripts.TranscriptAnswer.{TranscriptAnswer}
+use Rattle.history.specs.declared.transcripts.TranscriptAnswer.the-variants as Answer
+use Rattle.history.specs.Lines.{lineIn}
+use Rattle.history.specs.Replay.{places, transcript}
+
+abbrev pub refused : History → ℕ → LineResult
+refused h n = record { refusal = n; moved = 0; count = 0; history = h }
+
+abbrev pub settledLine : Outcome → LineResult
+settledLine o =
+    record { refusal = o .number; moved = o .moved; count = o .count; history = record { begun = true; pool = poolOf (o .state) } }
+
+-- '3: a range line after an accepted one'
+abbrev pub rangedLine : History → ℕ → ℕ → LineResult
+rangedLine h R M =
+    cond (h .begun) (refused h 3) (record { refusal = 0; moved = 0; count = 0; history = record { begun = true; pool = poolOf (fresh R M) } })
+
+-- '3: a change line with no range line accepted before'; else f answers the change
+abbrev pub appliedLine : History → (Change → LineResult) → LineAnswer → LineResult
+appliedLine h f (Refused n) = refused h n
+appliedLine h f (Range R M) = rangedLine h R M
+appliedLine h f (Add d c) = cond (h .begun) (f (add d c)) (refused h 3)
+appliedLine h f (Remove d) = cond (h .begun) (f (remove d)) (refused h 3)
+appliedLine h f (Resize d c) = cond (h .begun) (f (resize d c)) (refused h 3)
+
+-- of a valid pool the rules' outcome; a change of any other is refused with 2
+pub record ChangedLine (h : History) (k : Change) (r : LineResult) : Type 0 where
+  pub valid : ValidPool (h .pool) → r ≡ cond (h .begun) (settledLine (change (stateOf (h .pool)) places k)) (refused h 3)
+  pub invalid : (ValidPool (h .pool) → ⊥) → r ≡ cond (h .begun) (refused h 2) (refused h 3)
+
+pub record Applied (h : History) (xs : List ℕ) (r : LineResult) : Type 0 where
+  pub valid : ValidPool (h .pool) → r ≡ appliedLine h (λ k. settledLine (change (stateOf (h .pool)) places k)) (lineIn xs)
+  pub invalid : (ValidPool (h .pool) → ⊥) → r ≡ appliedLine h (λ k. refused h 2) (lineIn xs)
+
+-- the first part of a text that is cut at n: a line, or what has no line end
+abbrev pub PartOf : History → List ℕ → ℕ → Bool → LineResult → Type 0
+PartOf h xs n true r = Applied h (take n xs) r
+PartOf h xs n false r = r ≡ refused h 1
+
+abbrev pub PartApplied : History → List ℕ → ℕ → LineResult → Type 0
+PartApplied h xs n r = PartOf h xs n (ltb n (length xs)) r
+
+-- the room that every transcript fits in: 44 bytes for each of 65,536 lines, 33 for each of 4,096 intervals, 6 for `table`
+abbrev pub room : ℕ
+room = 3145728
+
+-- a buffer without that room is refused with 17, and stays
+pub record Transcribed (xs before : List ℕ) (r : TranscriptAnswer) (after : List ℕ) : Type 0 where
+  pub answer : r ≡ cond (ltb (length before) room) (Answer.Refused 17) (Answer.Printed (length (transcript xs)))
+  pub buffer : after ≡ cond (ltb (length before) room) before (transcript xs ++ drop (length (transcript xs)) before)

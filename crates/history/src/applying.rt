@@ -1,0 +1,151 @@
+// One line of a history, applied.
+use crate::lines::LineAnswer;
+use crate::lines::line;
+use placement::ChangeAnswer;
+use placement::Pool;
+use placement::add;
+use placement::fresh;
+use placement::remove;
+use placement::resize;
+ghost use mathlib.Core.Path.{_≡_};
+ghost use mathlib.Core.Bool.{true, false};
+ghost use lib.ListN.{replicate};
+ghost use Rattle.placement.specs.Pools.{poolOf};
+ghost use Rattle.slicing.specs.Changes as Changes;
+ghost use Rattle.history.specs.Lines.{farRange};
+ghost use Rattle.history.specs.Promises.{rangedLine, ChangedLine, Applied};
+ghost use Rattle.history.specs.Promises.{refused as refusedLine};
+
+// Whether a range line was accepted, and the pool.
+pub struct History {
+    pub begun: bool,
+    pub pool: Pool,
+}
+
+impl History {
+    // Before the first line.
+    pub fn new() -> Self
+        ensures { λ r. ⌜ r ≡ record { begun = false; pool = poolOf (Changes.fresh 1 1) } ⌝ }
+    {
+        let answer = fresh(1, 1);
+        let pool = answer.pool;
+        Self {
+            begun: false,
+            pool: pool,
+        }
+    }
+}
+
+// What a line gives: the refusal number or 0, the moved points, the number of moves, and the history
+// afterwards.
+pub struct LineResult {
+    pub refusal: u32,
+    pub moved: u64,
+    pub count: usize,
+    pub history: History,
+}
+
+pub fn refused(history: History, refusal: u32) -> LineResult
+    ensures { λ r. ⌜ r ≡ refusedLine history refusal ⌝ }
+{
+    LineResult {
+        refusal: refusal,
+        moved: 0,
+        count: 0,
+        history: history,
+    }
+}
+
+// The list of 4,096 places, four numbers each.
+fn list() -> [u64; 16384]
+    ensures { λ r. ⌜ r ≡ replicate 16384 0 ⌝ }
+{
+    [0; 16384]
+}
+
+// A change's answer as the result of its line.
+fn settled(answer: ChangeAnswer) -> LineResult
+    ensures { λ r. ⌜ r ≡ record { refusal = answer .refusal; moved = answer .moved; count = answer .count; history = record { begun = true; pool = answer .pool } } ⌝ }
+{
+    let pool = answer.pool;
+    let history = History {
+        begun: true,
+        pool: pool,
+    };
+    LineResult {
+        refusal: answer.refusal,
+        moved: answer.moved,
+        count: answer.count,
+        history: history,
+    }
+}
+
+// A range line: it comes first, once.
+fn ranged(history: History, range: u64, limit: u64) -> LineResult
+    requires { ⌜ farRange range limit ≡ false ⌝ }
+    ensures { λ r. ⌜ r ≡ rangedLine history range limit ⌝ }
+{
+    if history.begun {
+        return refused(history, 3);
+    }
+    let answer = fresh(range, limit);
+    let pool = answer.pool;
+    let next = History {
+        begun: true,
+        pool: pool,
+    };
+    LineResult {
+        refusal: 0,
+        moved: 0,
+        count: 0,
+        history: next,
+    }
+}
+
+fn added(history: History, id: u64, capacity: u64) -> LineResult
+    ensures { λ r. ⌜ ChangedLine history (Changes.add id capacity) r ⌝ }
+{
+    if !history.begun {
+        return refused(history, 3);
+    }
+    let pool = history.pool;
+    let mut places = list();
+    settled(add(pool, id, capacity, &mut places))
+}
+
+fn removed(history: History, id: u64) -> LineResult
+    ensures { λ r. ⌜ ChangedLine history (Changes.remove id) r ⌝ }
+{
+    if !history.begun {
+        return refused(history, 3);
+    }
+    let pool = history.pool;
+    let mut places = list();
+    settled(remove(pool, id, &mut places))
+}
+
+fn resized(history: History, id: u64, capacity: u64) -> LineResult
+    ensures { λ r. ⌜ ChangedLine history (Changes.resize id capacity) r ⌝ }
+{
+    if !history.begun {
+        return refused(history, 3);
+    }
+    let pool = history.pool;
+    let mut places = list();
+    settled(resize(pool, id, capacity, &mut places))
+}
+
+// A line, without its line end, applied to a history. 1 and 2 as of `line`; 3 for a change line before a
+// range line was accepted, and for a range line after one; then the refusals of the change, with a list
+// of 4,096 places.
+pub fn apply(history: History, text: &[u8]) -> LineResult
+    ensures { λ r. ⌜ Applied history (now (text .entry)) r ⌝ }
+{
+    match line(text) {
+        LineAnswer::Range(range, limit) => ranged(history, range, limit),
+        LineAnswer::Add(id, capacity) => added(history, id, capacity),
+        LineAnswer::Remove(id) => removed(history, id),
+        LineAnswer::Resize(id, capacity) => resized(history, id, capacity),
+        LineAnswer::Refused(refusal) => refused(history, refusal),
+    }
+}

@@ -1,0 +1,104 @@
+// What `slices` prints of a history text.
+use crate::applying::History;
+use crate::applying::LineResult;
+use crate::applying::apply;
+use crate::applying::refused;
+use crate::numbers::find;
+use crate::printing::put_line;
+use crate::printing::put_rows;
+use crate::printing::put_text;
+use placement::Pool;
+ghost use mathlib.Core.Path.{_≡_};
+ghost use mathlib.Core.List.{_++_};
+ghost use Prim.Native.Nat.{_+_, _*_, _≤_};
+ghost use lib.ListN.{length, take, drop};
+ghost use Rattle.placement.specs.Pools.{stateOf, ValidPool};
+ghost use Rattle.history.specs.Promises.{PartApplied, Transcribed};
+ghost use Rattle.history.specs.Replay.{printedTable, replayed};
+
+// Every transcript fits into so many bytes.
+pub const ROOM: usize = 3145728;
+
+// The most bytes of a history.
+const LONGEST: usize = 65536;
+
+// The answer of a transcript: how many bytes were printed.
+pub enum TranscriptAnswer {
+    Printed(usize),
+    Refused(u32),
+}
+
+// The first line of a text, which ends at `end`; without a line end there it is refused with 1.
+fn part_applied(history: History, text: &[u8], end: usize) -> LineResult
+    requires { ⌜ end ≤ length (now text) ⌝ }
+    ensures { λ r. ⌜ PartApplied history (now (text .entry)) end r ⌝ }
+{
+    if end < text.len() {
+        return apply(history, &text[..end]);
+    }
+    refused(history, 1)
+}
+
+// Writes the table of a pool.
+fn put_table(out: &mut [u8], place: usize, pool: Pool) -> usize
+    requires { ⌜ ValidPool pool × (place + 6 + 33 * pool .intervals ≤ length (now out)) ⌝ }
+    ensures place { λ r. ⌜ r ≡ place + length (printedTable (stateOf pool)) ⌝ }
+    ensures table { λ r. ⌜ now (out .exit) ≡ take place (now (out .entry)) ++ printedTable (stateOf pool) ++ drop (place + length (printedTable (stateOf pool))) (now (out .entry)) ⌝ }
+{
+    let starts = pool.starts;
+    let owners = pool.owners;
+    let rows = put_text(&mut *out, place, b"table\n");
+    put_rows(
+        &mut *out,
+        rows,
+        &starts,
+        &owners,
+        pool.intervals,
+        pool.range,
+    )
+}
+
+// Prints a history of at most 65,536 bytes.
+fn replay(text: &[u8], out: &mut [u8]) -> usize
+    requires { ⌜ (length (now text) ≤ 65536) × (3145728 ≤ length (now out)) ⌝ }
+    ensures place { λ r. ⌜ r ≡ length (replayed (now (text .entry))) ⌝ }
+    ensures text { λ r. ⌜ now (out .exit) ≡ replayed (now (text .entry)) ++ drop (length (replayed (now (text .entry)))) (now (out .entry)) ⌝ }
+{
+    let mut history = History::new();
+    let mut line = 1;
+    let mut from = 0;
+    let mut place = 0;
+    while from < text.len() {
+        let rest = &text[from..];
+        let end = find(rest, b'\n');
+        let result = part_applied(history, rest, end);
+        place = put_line(
+            &mut *out,
+            place,
+            line,
+            result.refusal as u64,
+            result.moved,
+            result.count as u64,
+        );
+        history = result.history;
+        line += 1;
+        from += end + 1;
+    }
+    let pool = history.pool;
+    put_table(&mut *out, place, pool)
+}
+
+// Writes what `slices` prints of a text, and answers how many bytes. More than 65,536 bytes give `too
+// long` alone. A buffer of less than ROOM bytes is refused with 17 and stays; the bytes behind the
+// transcript stay.
+pub fn transcript(text: &[u8], out: &mut [u8]) -> TranscriptAnswer
+    ensures { λ r. ⌜ Transcribed (now (text .entry)) (now (out .entry)) r (now (out .exit)) ⌝ }
+{
+    if out.len() < ROOM {
+        return TranscriptAnswer::Refused(17);
+    }
+    if text.len() > LONGEST {
+        return TranscriptAnswer::Printed(put_text(&mut *out, 0, b"too long\n"));
+    }
+    TranscriptAnswer::Printed(replay(text, &mut *out))
+}
