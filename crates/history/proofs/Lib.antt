@@ -5,4 +5,7 @@ pub mod AppliedLines
 pub mod ReplayBounds
 pub mod ReplaySteps
 pub mod Replaying
+pub mod PutBehind
+pub mod Decimals
+pub mod PrintedRows
 pub mod PrintedTables

@@ -58,14 +58,14 @@ fn put_row(out: &mut [u8], place: usize, a: u64, b: u64, c: u64) -> usize
     put_field(&mut *out, second, c, b'\n')
 }
 
-// Numbers that were read from a pool.
+// Numbers that were read from a pool or a result.
 fn wide16(x: u16) -> u64
     ensures { λ r. ⌜ (r ≡ x) × (r < 65536) ⌝ }
 {
     x as u64
 }
 
-fn wide32(x: u32) -> u64
+pub fn wide32(x: u32) -> u64
     ensures { λ r. ⌜ (r ≡ x) × (r < 4294967296) ⌝ }
 {
     x as u64

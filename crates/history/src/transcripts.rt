@@ -7,6 +7,7 @@ use crate::numbers::find;
 use crate::printing::put_line;
 use crate::printing::put_rows;
 use crate::printing::put_text;
+use crate::printing::wide32;
 use placement::Pool;
 ghost use mathlib.Core.Path.{_≡_};
 ghost use mathlib.Core.List.{_++_};
@@ -76,7 +77,7 @@ fn replay(text: &[u8], out: &mut [u8]) -> usize
             &mut *out,
             place,
             line,
-            result.refusal as u64,
+            wide32(result.refusal),
             result.moved,
             result.count as u64,
         );

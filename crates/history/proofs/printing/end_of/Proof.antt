@@ -1,0 +1,51 @@
+-- `history::printing::end_of` meets its contract.
+use mathlib.Core.Path.{sym, ap, _∙_}
+use mathlib.Core.Bool.{cond}
+use Prim.Native.Nat.{_+_}
+use borrow.Author.Needs.{needs}
+use borrow.Author.Tests.{lt-ltb, le-ltb}
+use Rattle.slicing_core.specs.Rows.{at}
+use Rattle.history.proofs.printing.end_of.Statement.{statement}
+use Rattle.history.proofs.printing.end_of.Tie as tie
+use Rattle.history.proofs.printing.end_of.Reads as reads
+use Rattle.history.proofs.printing.end_of.Lts as lts
+use Rattle.history.proofs.printing.wide32.Reads as wide32-reads
+
+add-if1 : tie.Need-add-if1
+add-if1 c = search needs
+
+add-wide32 : tie.Need-add-wide32
+add-wide32 c = search needs
+
+mul-wide32 : tie.Need-mul-wide32
+mul-wide32 c = search needs
+
+element-copy-out-wide32 : tie.Need-element-copy-out-wide32
+element-copy-out-wide32 c = search needs
+
+wide32-requires : tie.Need-wide32-requires
+wide32-requires c κs = search needs
+
+returns : tie.Need-returns
+returns c =
+    let a = c .before .before .before .args in
+    let e = lt-ltb (a .i + 1) (a .q) (c .before .before .if1 .taken) in
+    c .wide32 .ensures .0 ∙ sym (ap (λ t. cond t (at (a .starts .now) (a .i + 1)) (a .range)) e)
+
+returns-2 : tie.Need-returns-2
+returns-2 c =
+    let a = c .before .args in
+    let e = le-ltb (a .i + 1) (a .q) (c .if1 .left) in
+    sym (ap (λ t. cond t (at (a .starts .now) (a .i + 1)) (a .range)) e)
+
+pub end-of-spec : {M : Type 1} → statement M
+end-of-spec =
+    tie.close
+    (tie.spec
+    add-if1
+    add-wide32
+    mul-wide32
+    element-copy-out-wide32
+    wide32-requires
+    returns
+    returns-2)
