@@ -3,17 +3,17 @@
 --   Put b i xs b'       b' is b with xs put at place i
 --   put-byte (one byte), put-behind (bytes behind bytes), put-none, put-same (the same bytes), put-room (the buffer's length)
 --   Written b i xs b' j     the same, and j is the place behind xs
---   fields-behind (a field, and the fields behind it), length-fields-more (their length), length-end (a number with the byte behind it)
-use mathlib.Core.Path.{_≡_, refl, sym, ap, _∙_, subst}
+--   fields-behind (a field, and the fields behind it), length-end (the length of a field), length-three, length-four (of a line)
+use mathlib.Core.Path.{_≡_, sym, ap, _∙_, subst}
 use mathlib.Core.List.{List, [], _∷_, _++_, append-assoc, append-nil}
-use Prim.Native.Nat.{ℕ, suc, _+_, _≤_, _<_}
+use Prim.Native.Nat.{ℕ, _+_, _≤_, _<_}
 use native.Mathlib.Omega.{arith}
 use native.Mathlib.Nat.{add-zero}
 use native.Mathlib.Numerals.{add-one}
 use lib.ListN.{length, set, take, drop, length-append, length-take, length-drop, take-append-drop}
 use lib.Seq.{append-snoc, set-split}
 use Rattle.slicing_core.proofs.Fronts.{front-put}
-use Rattle.history.specs.Text.{space}
+use Rattle.history.specs.Text.{lineEnd, space}
 use Rattle.history.specs.Replay.{decimal, fields}
 
 abbrev pub Put : List ℕ → ℕ → List ℕ → List ℕ → Type 0
@@ -60,8 +60,15 @@ fields-cons n m ns = append-assoc (decimal n) (space ∷ []) (fields (m ∷ ns))
 pub length-end : (n e : ℕ) → length (decimal n ++ e ∷ []) ≡ length (decimal n) + 1
 length-end n e = length-append (decimal n) (e ∷ [])
 
-pub length-fields-more : (n m : ℕ) (ns : List ℕ) → length (fields (n ∷ m ∷ ns)) ≡ length (decimal n) + 1 + length (fields (m ∷ ns))
+length-fields-more : (n m : ℕ) (ns : List ℕ) → length (fields (n ∷ m ∷ ns)) ≡ length (decimal n) + 1 + length (fields (m ∷ ns))
 length-fields-more n m ns = omega (arith, length-append (decimal n) (space ∷ fields (m ∷ ns)))
+
+pub length-three : (a b c : ℕ) → length (fields (a ∷ b ∷ c ∷ [])) ≡ length (decimal a) + length (decimal b) + length (decimal c) + 3
+length-three a b c = omega (arith, length-fields-more a b (c ∷ []), length-fields-more b c [], length-end c lineEnd)
+
+pub length-four : (a b c d : ℕ)
+    → length (fields (a ∷ b ∷ c ∷ d ∷ [])) ≡ length (decimal a) + length (decimal b) + length (decimal c) + length (decimal d) + 4
+length-four a b c d = omega (arith, length-fields-more a b (c ∷ d ∷ []), length-three b c d)
 
 pub fields-behind : (b b' b'' : List ℕ) (n m : ℕ) (ns : List ℕ) (i j k : ℕ) → i ≤ length b → Written b i (decimal n ++ space ∷ []) b' j
     → Written b' j (fields (m ∷ ns)) b'' k → Written b i (fields (n ∷ m ∷ ns)) b'' k

@@ -1,6 +1,9 @@
--- The examples of document 01, 'Marked for proof', as theorems of their names. K1 to K4 join them with the history's definitions.
+-- The examples of document 01, 'Marked for proof', as theorems of their names.
 use mathlib.Core.Path.{_≡_, refl}
 use mathlib.Core.List.{[], _∷_}
+use Rattle.history.specs.declared.numbers.CapacityAnswer.the-variants.{Thousandths, Refused}
+use Rattle.history.specs.Lines.{capacityAnswer}
+use Rattle.history.specs.Text.{capacityIn}
 use Rattle.lookup_core.specs.Probes.{scaled}
 use Rattle.slicing.specs.Changes.{fresh, add, remove, resize, change}
 use Rattle.slicing.specs.Demand3.{written}
@@ -10,6 +13,27 @@ use Rattle.slicing.specs.Runs.{_of_}
 use Rattle.slicing.specs.ShareRule.{shares}
 use Rattle.slicing.specs.SixSteps.{turns, move}
 use Rattle.slicing.proofs.Examples.{after, next, threeEqual}
+
+-- `3.2` is 3,200
+pub K1 : capacityAnswer (capacityIn (0x33 ∷ 0x2e ∷ 0x32 ∷ [])) ≡ Thousandths 3200
+unfolding capacityIn
+K1 = refl
+
+-- `3,2` and `3.2e` give 1
+pub K2 : (capacityAnswer (capacityIn (0x33 ∷ 0x2c ∷ 0x32 ∷ [])) ≡ Refused 1) × (capacityAnswer (capacityIn (0x33 ∷ 0x2e ∷ 0x32 ∷ 0x65 ∷ [])) ≡ Refused 1)
+unfolding capacityIn
+K2 = (refl, refl)
+
+-- `0.000` gives 2
+pub K3 : capacityAnswer (capacityIn (0x30 ∷ 0x2e ∷ 0x30 ∷ 0x30 ∷ 0x30 ∷ [])) ≡ Refused 2
+unfolding capacityIn
+K3 = refl
+
+-- `1000.000` is 1,000,000; `1000.001` gives 2
+pub K4 : (capacityAnswer (capacityIn (0x31 ∷ 0x30 ∷ 0x30 ∷ 0x30 ∷ 0x2e ∷ 0x30 ∷ 0x30 ∷ 0x30 ∷ [])) ≡ Thousandths 1000000)
+    × (capacityAnswer (capacityIn (0x31 ∷ 0x30 ∷ 0x30 ∷ 0x30 ∷ 0x2e ∷ 0x30 ∷ 0x30 ∷ 0x31 ∷ [])) ≡ Refused 2)
+unfolding capacityIn
+K4 = (refl, refl)
 
 -- R = 100, three equal: shares 34, 33, 33
 pub K5 : shares 100 (device 1 1000 ∷ device 2 1000 ∷ device 3 1000 ∷ []) ≡ (34 of 1) ∷ (33 of 2) ∷ (33 of 3) ∷ []

@@ -1,13 +1,13 @@
 -- The proof of the cycle of calls {put_decimal}. The measure is the number: a tenth of it is less. The last digit stands behind those of the tenth.
 use mathlib.Core.Path.{sym, ap}
 use mathlib.Core.List.{[], _∷_}
+use Prim.Native.Nat.{ℕ, _+_, _/_, _%_, _<_}
 use native.Mathlib.Omega.{arith}
 use lib.ListN.{length}
 use borrow.Author.Needs.{needs}
 use Rattle.history.specs.Replay.{decimal}
 use Rattle.history.proofs.Decimals.{decimal-low, decimal-high, decimal-some, length-decimal-high}
 use Rattle.history.proofs.PutBehind.{put-byte, put-behind, put-same}
-use Prim.Native.Nat.{ℕ, _+_, _/_, _%_, _<_}
 use borrow.Fn.Kinds.{In}
 use borrow.Fn.PlainCycle.{Measures, is, falls, and}
 use Rattle.history.proofs.printing.put_decimal.Reads as put-decimal

@@ -7,9 +7,6 @@ use borrow.Author.Tests.{lt-ltb, le-ltb}
 use Rattle.slicing_core.specs.Rows.{at}
 use Rattle.history.proofs.printing.end_of.Statement.{statement}
 use Rattle.history.proofs.printing.end_of.Tie as tie
-use Rattle.history.proofs.printing.end_of.Reads as reads
-use Rattle.history.proofs.printing.end_of.Lts as lts
-use Rattle.history.proofs.printing.wide32.Reads as wide32-reads
 
 add-if1 : tie.Need-add-if1
 add-if1 c = search needs

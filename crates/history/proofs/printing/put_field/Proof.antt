@@ -6,9 +6,6 @@ use Rattle.history.specs.Replay.{decimal}
 use Rattle.history.proofs.PutBehind.{put-byte, put-behind, length-end}
 use Rattle.history.proofs.printing.put_field.Statement.{statement}
 use Rattle.history.proofs.printing.put_field.Tie as tie
-use Rattle.history.proofs.printing.put_field.Reads as reads
-use Rattle.history.proofs.printing.put_field.Lts as lts
-use Rattle.history.proofs.printing.put_decimal.Reads as put-decimal-reads
 
 put-decimal-requires : tie.Need-put-decimal-requires
 put-decimal-requires c κs = search needs

@@ -1,29 +1,29 @@
--- `history::printing::put_row` meets its contract: field behind field.
+-- `history::printing::put_row` meets its contract: each field stands behind the one before it.
 use mathlib.Core.List.{[], _∷_}
 use native.Mathlib.Omega.{arith}
 use borrow.Author.Needs.{needs}
-use Rattle.history.specs.Text.{space, lineEnd}
-use Rattle.history.proofs.PutBehind.{fields-behind, length-fields-more, length-end}
+use Rattle.history.specs.Text.{space}
+use Rattle.history.proofs.PutBehind.{fields-behind, length-end, length-three}
 use Rattle.history.proofs.printing.put_row.Statement.{statement}
 use Rattle.history.proofs.printing.put_row.Tie as tie
-use Rattle.history.proofs.printing.put_row.Reads as reads
-use Rattle.history.proofs.printing.put_row.Lts as lts
-use Rattle.history.proofs.printing.put_field.Reads as put-field-reads
 
 put-field-requires : tie.Need-put-field-requires
 put-field-requires c κs =
     let a = c .before .before .args in
-    omega (arith, length-fields-more (a .a) (a .b) (a .c ∷ []), length-fields-more (a .b) (a .c) ([]), length-end (a .c) lineEnd)
+    omega (arith, length-three (a .a) (a .b) (a .c))
 
 put-field-requires-2 : tie.Need-put-field-requires-2
 put-field-requires-2 c κs =
-    let a = c .before .before .before .before .before .before .args in
-    omega (arith, length-fields-more (a .a) (a .b) (a .c ∷ []), length-fields-more (a .b) (a .c) ([]), length-end (a .c) lineEnd, c .before .before .before .put-field .ensures .0, length-end (a .a) space)
+    let first = c .before .before .before in
+    let a = first .before .before .before .args in
+    omega (arith, length-three (a .a) (a .b) (a .c), first .put-field .ensures .0, length-end (a .a) space)
 
 put-field-requires-3 : tie.Need-put-field-requires-3
 put-field-requires-3 c κs =
-    let a = c .before .before .before .before .before .before .before .before .before .before .args in
-    omega (arith, length-fields-more (a .a) (a .b) (a .c ∷ []), length-fields-more (a .b) (a .c) ([]), length-end (a .c) lineEnd, c .before .before .before .before .before .before .before .put-field .ensures .0, length-end (a .a) space, c .before .before .before .put-field2 .ensures .0, length-end (a .b) space)
+    let second = c .before .before .before in
+    let first = second .before .before .before .before in
+    let a = first .before .before .before .args in
+    omega (arith, length-three (a .a) (a .b) (a .c), first .put-field .ensures .0, length-end (a .a) space, second .put-field2 .ensures .0, length-end (a .b) space)
 
 same-length : tie.Need-same-length
 same-length c = search needs
@@ -34,7 +34,8 @@ returns c =
     let second = third .before .before .before .before in
     let first = second .before .before .before .before in
     let a = first .before .before .before .args in
-    let l2 = length-fields-more (a .a) (a .b) (a .c ∷ []) in
+    let l = length-three (a .a) (a .b) (a .c) in
+    let e1 = length-end (a .a) space in
     let b0 = a .out .now in
     let b1 = first .put-field .last .0 in
     let b2 = second .put-field2 .last .0 in
@@ -43,8 +44,7 @@ returns c =
     let i2 = second .put-field2 .result in
     let i3 = third .put-field3 .result in
     fields-behind b0 b1 b3 (a .a) (a .b) (a .c ∷ []) (a .place) i1 i3 (omega arith) (first .put-field .ensures)
-    (fields-behind b1 b2 b3 (a .b) (a .c) [] i1 i2 i3 (omega (arith, first .put-field .ensures .0, length-end (a .a) space))
-    (second .put-field2 .ensures) (third .put-field3 .ensures))
+    (fields-behind b1 b2 b3 (a .b) (a .c) [] i1 i2 i3 (omega (arith, first .put-field .ensures .0)) (second .put-field2 .ensures) (third .put-field3 .ensures))
 
 pub put-row-spec : {M : Type 1} → statement M
 put-row-spec =

@@ -4,12 +4,6 @@ use native.Mathlib.Omega.{arith}
 use Rattle.history.proofs.PrintedRows.{Printed, row-fits, printed-none, printed-room, printed-more, printed-all}
 use Rattle.history.proofs.printing.put_rows.Statement.{statement}
 use Rattle.history.proofs.printing.put_rows.Tie as tie
-use Rattle.history.proofs.printing.put_rows.Reads as reads
-use Rattle.history.proofs.printing.put_rows.Lts as lts
-use Rattle.history.proofs.printing.end_of.Reads as end-of-reads
-use Rattle.history.proofs.printing.put_row.Reads as put-row-reads
-use Rattle.history.proofs.printing.wide16.Reads as wide16-reads
-use Rattle.history.proofs.printing.wide32.Reads as wide32-reads
 
 abbrev Inv-loop : tie.InvT-loop
 Inv-loop out₀ place starts owners q range last₀ i₀ out last i = Printed starts owners range q place out₀ out last i

@@ -7,8 +7,6 @@ use lib.ListN.{length, set, getD, length-set}
 use lib.Seq.{paste, paste-zero, paste-suc, take-length}
 use Rattle.history.proofs.printing.put_text.Statement.{statement}
 use Rattle.history.proofs.printing.put_text.Tie as tie
-use Rattle.history.proofs.printing.put_text.Reads as reads
-use Rattle.history.proofs.printing.put_text.Lts as lts
 
 abbrev Inv-loop : tie.InvT-loop
 Inv-loop out₀ place text i₀ out i = (i ≤ length text) × (length out ≡ length out₀) × (out ≡ paste out₀ place text i)
