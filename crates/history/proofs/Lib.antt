@@ -1,6 +1,10 @@
 pub mod Examples
 pub mod Splitting
 pub mod LineLimits
+pub mod TextLines
+pub mod ReplayLaws
+pub mod PrintedLines
+pub mod HistoryLists
 pub mod AppliedLines
 pub mod ReplayBounds
 pub mod ReplaySteps

@@ -3,3 +3,4 @@ pub mod Text
 pub mod Lines
 pub mod Replay
 pub mod Promises
+pub mod Histories
