@@ -4,23 +4,27 @@
 --   line-begun, line-before   a change line after and before a range line
 --   fresh-inside       the fresh pool of numbers within their limits
 --   ranged-after, ranged-first   a range line after and before another
-use mathlib.Core.Path.{_≡_, refl, sym, ap, _∙_}
-use mathlib.Core.Bool.{true, false, cond}
+--   applied-refused, applied-range, applied-add, applied-remove, applied-resize   by what the line says
+--   part-line, part-open   the first part of a text, with and without a line end
+use mathlib.Core.Path.{_≡_, refl, ap, _∙_}
+use mathlib.Core.Bool.{true, false}
 use mathlib.Core.List.{List, _∷_}
-use Prim.Native.Nat.{ℕ, zero, suc, _*_}
+use Prim.Native.Nat.{ℕ, zero, suc, _*_, _≤_, _<_}
 use native.Mathlib.Omega.{arith}
-use lib.ListN.{replicate}
-use Rattle.placement.specs.Pools.{stateOf, poolOf, ValidPool}
+use lib.ListN.{length, replicate, take}
+use borrow.Author.Tests.{lt-ltb, le-ltb}
+use Rattle.placement.specs.Pools.{stateOf, poolOf}
 use Rattle.placement.specs.Promises.{movesIn, Fresh, Answered, Changed}
 use Rattle.placement.specs.declared.ChangeAnswer.{ChangeAnswer}
 use Rattle.placement.specs.declared.PoolAnswer.{PoolAnswer}
-use Rattle.slicing.specs.Changes.{fresh, Change, Outcome, change}
+use Rattle.slicing.specs.Changes.{fresh, Change, add, remove, resize, change}
 use Rattle.slicing.specs.Changes.{refused as refusal}
-use Rattle.slicing.specs.SixSteps.{Move, move}
+use Rattle.slicing.specs.SixSteps.{move}
 use Rattle.history.specs.declared.applying.History.{History}
 use Rattle.history.specs.declared.applying.LineResult.{LineResult}
-use Rattle.history.specs.Lines.{farRange}
-use Rattle.history.specs.Promises.{refused, settledLine, rangedLine, ChangedLine}
+use Rattle.history.specs.declared.lines.LineAnswer.the-variants.{Range, Add, Remove, Resize, Refused}
+use Rattle.history.specs.Lines.{farRange, lineIn}
+use Rattle.history.specs.Promises.{refused, settledLine, rangedLine, ChangedLine, Applied, PartApplied}
 use Rattle.history.specs.Replay.{places}
 
 movesIn-four : (n : ℕ) → movesIn (replicate (4 * n) 0) ≡ replicate n (move 0 0 0 0)
@@ -65,3 +69,30 @@ ranged-after h R M r e b = e ∙ rw b
 pub ranged-first : (h : History) (R M : ℕ) (a : PoolAnswer) → farRange R M ≡ false → Fresh R M a → h .begun ≡ false
     → record { refusal = 0; moved = 0; count = 0; history = record { begun = true; pool = a .pool } } ≡ rangedLine h R M
 ranged-first h R M a e f b = rw (b, fresh-inside R M a e f)
+
+-- ---- what the line says decides
+
+module _ (h : History) (xs : List ℕ) (r : LineResult) where
+  pub applied-refused : (n : ℕ) → lineIn xs ≡ Refused n → r ≡ refused h n → Applied h xs r
+  applied-refused n l e = record { valid = λ v. e ∙ rw l; invalid = λ v. e ∙ rw l }
+
+  pub applied-range : (R M : ℕ) → lineIn xs ≡ Range R M → r ≡ rangedLine h R M → Applied h xs r
+  applied-range R M l e = record { valid = λ v. e ∙ rw l; invalid = λ v. e ∙ rw l }
+
+  pub applied-add : (d c : ℕ) → lineIn xs ≡ Add d c → ChangedLine h (add d c) r → Applied h xs r
+  applied-add d c l k = record { valid = λ v. rw l (k .valid v); invalid = λ v. rw l (k .invalid v) }
+
+  pub applied-remove : (d : ℕ) → lineIn xs ≡ Remove d → ChangedLine h (remove d) r → Applied h xs r
+  applied-remove d l k = record { valid = λ v. rw l (k .valid v); invalid = λ v. rw l (k .invalid v) }
+
+  pub applied-resize : (d c : ℕ) → lineIn xs ≡ Resize d c → ChangedLine h (resize d c) r → Applied h xs r
+  applied-resize d c l k = record { valid = λ v. rw l (k .valid v); invalid = λ v. rw l (k .invalid v) }
+
+-- ---- the first part of a text
+
+module _ (h : History) (xs : List ℕ) (n : ℕ) (r : LineResult) where
+  pub part-line : n < length xs → Applied h (take n xs) r → PartApplied h xs n r
+  part-line l a = rw (lt-ltb n (length xs) l) a
+
+  pub part-open : length xs ≤ n → r ≡ refused h 1 → PartApplied h xs n r
+  part-open l e = rw (le-ltb n (length xs) l) e

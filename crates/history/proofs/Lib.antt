@@ -1,5 +1,10 @@
 pub mod Examples
 pub mod Splitting
+pub mod DigitWords
+pub mod NumberWords
+pub mod LineShapes
+pub mod PutBehind
+pub mod Decimals
 pub mod LineLimits
 pub mod TextLines
 pub mod ReplayLaws
@@ -9,7 +14,5 @@ pub mod AppliedLines
 pub mod ReplayBounds
 pub mod ReplaySteps
 pub mod Replaying
-pub mod PutBehind
-pub mod Decimals
 pub mod PrintedRows
 pub mod PrintedTables

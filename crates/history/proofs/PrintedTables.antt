@@ -7,7 +7,7 @@ use mathlib.Core.Path.{_≡_, refl, sym, ap, ap₂, _∙_}
 use mathlib.Core.List.{List, [], _∷_, _++_, append-assoc}
 use Prim.Native.Nat.{ℕ, zero, suc, _+_, _≤_, _<_}
 use native.Mathlib.Omega.{arith}
-use lib.Dec.{eqb, ltb}
+use lib.Dec.{eqb}
 use lib.ListN.{length, take, drop, length-append, length-take, take-append-drop}
 use borrow.Author.Tests.{lt-ltb, le-ltb}
 use Rattle.placement.specs.Pools.{stateOf, ValidPool}
@@ -17,7 +17,6 @@ use Rattle.placement.proofs.ValidParts.{valid-covered, valid-empty}
 use Rattle.slicing.specs.Runs.{intervals, total, Coalesced}
 use Rattle.slicing_core.specs.Rows.{tableRows, intervalRows}
 use Rattle.slicing_core.proofs.Fronts.{front-put}
-use Rattle.history.specs.declared.transcripts.TranscriptAnswer.{TranscriptAnswer}
 use Rattle.history.specs.declared.transcripts.TranscriptAnswer.the-variants.{Printed, Refused}
 use Rattle.history.specs.Promises.{room, Transcribed}
 use Rattle.history.specs.Replay.{printedRows, printedTable, maxText, tooLong, replayed, transcript}

@@ -1,15 +1,15 @@
 -- How large the numbers are that a line gives.
 --
 --   moved-most, count-most     a change of a valid pool moves at most R points, in at most as many moves as the list has places
-use mathlib.Core.Path.{_≡_, refl, sym, ap, _∙_}
+use mathlib.Core.Path.{_≡_, refl}
 use mathlib.Core.List.{List, [], _∷_}
-use Prim.Native.Nat.{ℕ, zero, suc, _+_, _-_, _≤_}
+use Prim.Native.Nat.{ℕ, zero, suc, _≤_}
 use native.Mathlib.Omega.{arith}
 use lib.ListN.{length}
 use Rattle.slicing.specs.Changes.{State, Change, change}
 use Rattle.slicing.specs.Demand3.{Claim, from-valid, written}
 use Rattle.slicing.specs.Ledger.{Ledger, opened, feed}
-use Rattle.slicing.specs.Runs.{Run, _of_, total, owned, intervals}
+use Rattle.slicing.specs.Runs.{Run, _of_, total, intervals}
 use Rattle.slicing.specs.ShareRule.{shares}
 use Rattle.slicing.specs.SixSteps.{Move, reductions}
 use Rattle.slicing.specs.Validity.{Valid}

@@ -8,12 +8,12 @@ use mathlib.Core.Bool.{Bool, true, false, cond}
 use mathlib.Core.List.{List}
 use Prim.Native.Nat.{ℕ, _≤_}
 use native.Mathlib.Omega.{arith}
-use lib.ListN.{length, length-replicate}
+use lib.ListN.{length-replicate}
 use Rattle.placement.specs.Pools.{stateOf, poolOf, ValidPool}
 use Rattle.placement.proofs.PoolLaws.{stateOf-poolOf, validPool-poolOf}
 use Rattle.slicing.specs.Changes.{State, fresh, Change, add, remove, resize, change}
 use Rattle.slicing.specs.Limits.{maxRange, maxLimit, outside}
-use Rattle.slicing.specs.SixSteps.{Move, move}
+use Rattle.slicing.specs.SixSteps.{move}
 use Rattle.slicing.specs.Validity.{Valid}
 use Rattle.slicing.proofs.Changes.{valid-change, outside-false, or-false}
 use Rattle.slicing.proofs.Demand3.{valid-fresh}

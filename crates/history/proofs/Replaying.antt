@@ -7,15 +7,14 @@
 use mathlib.Core.Path.{_≡_, refl, sym, ap, ap₂, _∙_, subst}
 use mathlib.Core.Bool.{Bool, true, false, cond}
 use mathlib.Core.List.{List, [], _∷_, _++_, append-assoc}
-use Prim.Native.Nat.{ℕ, zero, suc, _+_, _*_, _-_, _≤_, _<_}
+use Prim.Native.Nat.{ℕ, suc, _+_, _*_, _-_, _≤_, _<_}
 use native.Mathlib.Omega.{arith}
 use native.Mathlib.Numerals.{add-one}
 use lib.Dec.{eqb, leb, ltb}
 use lib.ListN.{length, take, drop, length-append, length-drop, drop-of-length-le}
-use lib.Seq.{take-all, drop-drop, drop-cons}
+use lib.Seq.{take-all, drop-drop}
 use borrow.Author.Tests.{le-leb, lt-leb, ltb-true, ltb-false}
 use Rattle.placement.specs.Pools.{stateOf, poolOf, ValidPool}
-use Rattle.placement.specs.declared.Pool.{Pool}
 use Rattle.placement.proofs.PoolLaws.{stateOf-poolOf, validPool-poolOf}
 use Rattle.placement.proofs.ValidParts.{valid-limited}
 use Rattle.slicing.specs.Changes.{fresh}
@@ -26,9 +25,10 @@ use Rattle.history.specs.declared.applying.History.{History}
 use Rattle.history.specs.declared.applying.LineResult.{LineResult}
 use Rattle.history.specs.Cuts.{cutAt}
 use Rattle.history.specs.Lines.{lineIn}
-use Rattle.history.specs.Promises.{refused, Applied, PartOf, PartApplied}
-use Rattle.history.specs.Replay.{Reading, Result, start, refusal, applied, fields, printedLine, printedTable, replay, replayed}
+use Rattle.history.specs.Promises.{refused, Applied, PartApplied}
+use Rattle.history.specs.Replay.{Reading, Result, refusal, applied, fields, printedLine, printedTable, replay, replayed}
 use Rattle.history.specs.Text.{lineEnd, before, split}
+use Rattle.history.proofs.Decimals.{length-fields4}
 use Rattle.history.proofs.ReplaySteps.{readingOf, Given, given-line, given-refused}
 use Rattle.history.proofs.Splitting.{cutAt-below, split-whole, split-cut}
 
@@ -171,39 +171,40 @@ module _ (text : List ℕ) where
             go true t k = ended (ltb-true e (length rest) t) (rw t at k)
             go false t k = unfinished (ltb-false e (length rest) t) (rw t at k)
 
-        -- the four numbers of the printed line
-        abbrev numbers : List ℕ
-        numbers = line ∷ r .refusal ∷ r .moved ∷ r .count ∷ []
+        module _ (n : ℕ) (f : n ≡ r .refusal) (t : length text ≤ 65536) where
+          -- the printed line
+          abbrev bytes : List ℕ
+          bytes = fields (line ∷ n ∷ r .moved ∷ r .count ∷ [])
 
-        abbrev bytes : List ℕ
-        bytes = fields numbers
+          numbers-printed : printedLine line (printed .result) ≡ bytes
+          numbers-printed =
+              let g = printed .given in
+              rw (f, sym (g .number), sym (g .moved), sym (g .count))
 
-        numbers-printed : printedLine line (printed .result) ≡ bytes
-        numbers-printed =
-            let g = printed .given in
-            rw (sym (g .number), sym (g .moved), sym (g .count))
+          few : n < 4294967296 → length bytes ≤ 44
+          few b = length-fields4 line n (r .moved) (r .count) (omega (arith, w .lines)) (omega arith) (omega (arith, printed .given .few)) (omega (arith, printed .given .fits))
 
-        -- what `put_line` asks, where no line has over 44 bytes
-        pub replaying-room : length bytes ≤ 44 → length text ≤ 65536 → 3145728 ≤ length out₀ → place + length bytes ≤ length out
-        replaying-room b t o = omega (arith, w .room, w .same)
+          -- what `put_line` asks
+          pub replaying-room : n < 4294967296 → 3145728 ≤ length out₀ → place + length bytes ≤ length out
+          replaying-room b o = omega (arith, few b, w .room, w .same)
 
-        pub replaying-step : length bytes ≤ 44 → (place' : ℕ) (out' : List ℕ) → place' ≡ place + length bytes
-            → out' ≡ take place out ++ bytes ++ drop (place + length bytes) out → length out' ≡ length out
-            → Replaying out₀ (r .history) (line + 1) (from + (e + 1)) place' out'
-        replaying-step b place' out' p o q = record {
-          valid = printed .given .valid;
-          same = q ∙ w .same;
-          done = w .done ++ bytes;
-          size = length-append (w .done) bytes ∙ omega (arith, w .size);
-          written = rw p (front-put out₀ (w .done) bytes out out' place (length bytes) (w .size) (w .written) o);
-          whole =
-              append-assoc (w .done) bytes _
-              ∙ ap (λ ys. w .done ++ ys) (ap (λ xs. xs ++ later (readingOf (r .history)) (line + 1) (from + (e + 1))) (sym numbers-printed) ∙ sym (printed .split))
-              ∙ w .whole;
-          lines = omega (arith, w .lines);
-          room = omega (arith, w .room);
-          within = printed .next;
-        }
+          pub replaying-step : n < 4294967296 → (place' : ℕ) (out' : List ℕ) → place' ≡ place + length bytes
+              → out' ≡ take place out ++ bytes ++ drop (place + length bytes) out → length out' ≡ length out
+              → Replaying out₀ (r .history) (line + 1) (from + (e + 1)) place' out'
+          replaying-step b place' out' p o q = record {
+            valid = printed .given .valid;
+            same = q ∙ w .same;
+            done = w .done ++ bytes;
+            size = length-append (w .done) bytes ∙ omega (arith, w .size);
+            written = rw p (front-put out₀ (w .done) bytes out out' place (length bytes) (w .size) (w .written) o);
+            whole =
+                append-assoc (w .done) bytes _
+                ∙ ap (λ ys. w .done ++ ys) (ap (λ xs. xs ++ later (readingOf (r .history)) (line + 1) (from + (e + 1))) (sym numbers-printed) ∙ sym (printed .split))
+                ∙ w .whole;
+            lines = omega (arith, w .lines);
+            room = omega (arith, few b, w .room);
+            within = printed .next;
+          }
 
       -- the table comes behind the last line
       later-end : length text ≤ from → later (readingOf h) line from ≡ printedTable (stateOf (h .pool))

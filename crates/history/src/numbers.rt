@@ -89,7 +89,7 @@ fn fraction(word: &[u8]) -> Parsed
     ensures { λ r. ⌜ ((n : ℕ) → r ≡ Number n → n < 1000) ⌝ }
 {
     let n = word.len();
-    if n < 1 {
+    if n == 0 {
         return Parsed::Shapeless;
     }
     if n > 3 {

@@ -1,0 +1,141 @@
+-- `history::lines::line` meets its contract: the text is cut at its first spaces, and the number of words decides.
+use mathlib.Core.Path.{sym, _∙_}
+use mathlib.Core.List.{List}
+use Prim.Native.Nat.{ℕ}
+use borrow.Author.Needs.{needs}
+use Rattle.history.specs.Text.{space}
+use Rattle.history.proofs.Splitting.{part-front, behind, Cut, cut-made}
+use Rattle.history.proofs.LineShapes.{line-one, line-remove, line-two, line-three, line-four}
+use Rattle.history.proofs.lines.line.Statement.{statement}
+use Rattle.history.proofs.lines.line.Tie as tie
+
+abbrev text : tie.After-find → List ℕ
+text f = f .before .before .args .text .now
+
+abbrev rest : tie.After-find → List ℕ
+rest f = behind (text f) (f .find .result)
+
+first : (e : tie.Else1) → Cut space (text (e .before)) (e .before .find .result) (rest (e .before))
+first e = cut-made space (text (e .before)) (e .before .find .result) (e .before .find .ensures) (e .if1 .left)
+
+second : (w : tie.Else2) → let ys = rest (w .before .before .before .before) in Cut space ys (w .before .find2 .result) (behind ys (w .before .find2 .result))
+second w = cut-made space (rest (w .before .before .before .before)) (w .before .find2 .result) (w .before .find2 .ensures) (w .if2 .left)
+
+find-requires : tie.Need-find-requires
+find-requires c κs = search needs
+
+returns : tie.Need-returns
+returns c = line-one (text (c .before)) (c .before .find .result) (c .before .find .ensures) (c .if1 .taken)
+
+add-next : tie.Need-add-next
+add-next c = search needs
+
+sub-rest : tie.Need-sub-rest
+sub-rest c = search needs
+
+part-rest-start : tie.Need-part-rest-start
+part-rest-start c = search needs
+
+part-rest-end : tie.Need-part-rest-end
+part-rest-end c = search needs
+
+find-requires-2 : tie.Need-find-requires-2
+find-requires-2 c κs = search needs
+
+slice-aggregate-same : tie.Need-slice-aggregate-same
+slice-aggregate-same c =
+    let f = c .before .before .before .before .before in
+    part-front (f .find .result) (text f) (f .find .ensures .1)
+
+slice-aggregate-same-2 : tie.Need-slice-aggregate-same-2
+slice-aggregate-same-2 c = search needs
+
+same-requires : tie.Need-same-requires
+same-requires c κs = search needs
+
+remove-line-requires : tie.Need-remove-line-requires
+remove-line-requires c κs = search needs
+
+returns-2 : tie.Need-returns-2
+returns-2 c =
+    let s = c .before .before in
+    let w = s .before .before .before in
+    let g = w .before in
+    c .remove-line .ensures
+    ∙ line-remove (first (g .before .before)) (g .find2 .result) (g .find2 .ensures) (w .if2 .taken) (sym (s .same .ensures) ∙ c .before .if3 .taken)
+
+returns-3 : tie.Need-returns-3
+returns-3 c =
+    let s = c .before in
+    let w = s .before .before .before in
+    let g = w .before in
+    line-two (first (g .before .before)) (g .find2 .result) (g .find2 .ensures) (w .if2 .taken) (sym (s .same .ensures) ∙ c .if3 .left)
+
+add-last : tie.Need-add-last
+add-last c = search needs
+
+sub-tail : tie.Need-sub-tail
+sub-tail c = search needs
+
+part-tail-start : tie.Need-part-tail-start
+part-tail-start c = search needs
+
+part-tail-end : tie.Need-part-tail-end
+part-tail-end c = search needs
+
+find-requires-3 : tie.Need-find-requires-3
+find-requires-3 c κs = search needs
+
+returns-4 : tie.Need-returns-4
+returns-4 c =
+    let h = c .before in
+    let w = h .before .before in
+    line-four (first (w .before .before .before)) (second w) (h .find3 .result) (h .find3 .ensures) (c .if4 .taken)
+
+slice-aggregate-three-words : tie.Need-slice-aggregate-three-words
+slice-aggregate-three-words c =
+    let f = c .before .before .before .before .before .before .before .before in
+    part-front (f .find .result) (text f) (f .find .ensures .1)
+
+slice-aggregate-three-words-2 : tie.Need-slice-aggregate-three-words-2
+slice-aggregate-three-words-2 c =
+    let g = c .before .before .before .before .before .before in
+    part-front (g .find2 .result) (rest (g .before .before .before)) (g .find2 .ensures .1)
+
+three-words-requires : tie.Need-three-words-requires
+three-words-requires c κs = search needs
+
+returns-5 : tie.Need-returns-5
+returns-5 c =
+    let k = c .before .before .before in
+    let h = k .before in
+    let w = h .before .before in
+    c .three-words .ensures ∙ line-three (first (w .before .before .before)) (second w) (h .find3 .result) (h .find3 .ensures) (k .if4 .left)
+
+pub line-spec : {M : Type 1} → statement M
+line-spec =
+    tie.close
+    (tie.spec
+    find-requires
+    returns
+    add-next
+    sub-rest
+    part-rest-start
+    part-rest-end
+    find-requires-2
+    slice-aggregate-same
+    slice-aggregate-same-2
+    same-requires
+    remove-line-requires
+    returns-2
+    returns-3
+    add-last
+    sub-tail
+    part-tail-start
+    part-tail-end
+    find-requires-3
+    returns-4
+    slice-aggregate-three-words
+    slice-aggregate-three-words-2
+    three-words-requires
+    returns-5)

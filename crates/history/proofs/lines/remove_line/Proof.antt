@@ -1,0 +1,45 @@
+-- `history::lines::remove_line` meets its contract: the shape first, then the limit.
+use mathlib.Core.Path.{sym, _∙_}
+use Rattle.history.specs.Text.{numberIn}
+use Rattle.history.proofs.LineShapes.{remove-none, remove-far, remove-near}
+use borrow.Author.Needs.{needs}
+use Rattle.history.proofs.lines.remove_line.Statement.{statement}
+use Rattle.history.proofs.lines.remove_line.Tie as tie
+
+number-requires : tie.Need-number-requires
+number-requires c κs = search needs
+
+enum-known-id : tie.Need-enum-known-id
+enum-known-id c = search needs
+
+enum-told : tie.Need-enum-told
+enum-told c = search needs
+
+returns : tie.Need-returns
+returns c =
+    let n = c .before .before in
+    remove-none (numberIn (n .before .before .args .word .now)) (sym (n .number .ensures .0) ∙ c .enum-told .given .1)
+
+outside-requires : tie.Need-outside-requires
+outside-requires c κs = search needs
+
+returns-2 : tie.Need-returns-2
+returns-2 c =
+    let o = c .before in
+    let v = o .before .before in
+    let n = v .before .before in
+    remove-far (numberIn (n .before .before .args .word .now)) (v .id .given .0 .0) (sym (n .number .ensures .0) ∙ v .id .given .1)
+    (sym (o .outside .ensures) ∙ c .if1 .taken)
+
+returns-3 : tie.Need-returns-3
+returns-3 c =
+    let o = c .before in
+    let v = o .before .before in
+    let n = v .before .before in
+    remove-near (numberIn (n .before .before .args .word .now)) (v .id .given .0 .0) (sym (n .number .ensures .0) ∙ v .id .given .1)
+    (sym (o .outside .ensures) ∙ c .if1 .left)
+
+pub remove-line-spec : {M : Type 1} → statement M
+remove-line-spec =
+    tie.close
+    (tie.spec number-requires enum-known-id enum-told returns outside-requires returns-2 returns-3)

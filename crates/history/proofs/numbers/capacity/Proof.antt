@@ -1,0 +1,46 @@
+-- `history::numbers::capacity` meets its contract: the tests are those of `outside`, in their order.
+use mathlib.Core.Path.{_≡_, sym, ap, _∙_}
+use borrow.Author.Needs.{needs}
+use Rattle.history.specs.Lines.{capacityAnswer}
+use Rattle.history.specs.Text.{capacityIn}
+use Rattle.history.specs.declared.numbers.Parsed.the-variants.{Number}
+use Rattle.history.proofs.NumberWords.{answer-low, answer-high, answer-right}
+use Rattle.history.proofs.numbers.capacity.Statement.{statement}
+use Rattle.history.proofs.numbers.capacity.Tie as tie
+
+thousandths-requires : tie.Need-thousandths-requires
+thousandths-requires c κs = search needs
+
+enum-known-value : tie.Need-enum-known-value
+enum-known-value c = search needs
+
+enum-told : tie.Need-enum-told
+enum-told c = search needs
+
+told : (v : tie.After-value)
+    → capacityAnswer (Number (v .value .given .0 .0)) ≡ capacityAnswer (capacityIn (v .before .before .before .before .args .word .now))
+told v = ap capacityAnswer (sym (v .value .given .1) ∙ v .before .before .thousandths .ensures)
+
+returns : tie.Need-returns
+returns c = ap capacityAnswer (sym (c .enum-told .given .1) ∙ c .before .before .thousandths .ensures)
+
+returns-2 : tie.Need-returns-2
+returns-2 c = answer-low _ (c .if1 .taken) ∙ told (c .before .before)
+
+returns-3 : tie.Need-returns-3
+returns-3 c = answer-high _ (c .before .if1 .left) (c .if2 .taken) ∙ told (c .before .before .before)
+
+returns-4 : tie.Need-returns-4
+returns-4 c = answer-right _ (c .before .if1 .left) (c .if2 .left) ∙ told (c .before .before .before)
+
+pub capacity-spec : {M : Type 1} → statement M
+capacity-spec =
+    tie.close
+    (tie.spec
+    thousandths-requires
+    enum-known-value
+    enum-told
+    returns
+    returns-2
+    returns-3
+    returns-4)
