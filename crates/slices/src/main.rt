@@ -5,9 +5,18 @@ use history::ROOM;
 use history::TranscriptAnswer;
 use libc::STDIN_FILENO;
 use libc::STDOUT_FILENO;
+ghost use mathlib.Core.Path.{_≡_};
+ghost use lib.ListN.{length};
 
 // One byte more than the longest history, so that a longer one is seen.
 const MOST: usize = 65537;
+
+// ROOM zeros.
+fn room() -> [u8; ROOM]
+    ensures { λ r. ⌜ 3145728 ≡ length r ⌝ }
+{
+    [0; ROOM]
+}
 
 fn print(text: &[u8], out: &mut [u8]) {
     match history::transcript(text, &mut *out) {
@@ -22,7 +31,7 @@ fn print(text: &[u8], out: &mut [u8]) {
 
 fn main() {
     let mut text = [0u8; MOST];
-    let mut out = [0u8; ROOM];
+    let mut out = room();
     let n = io::read_full(STDIN_FILENO, &mut text);
     print(&text[..n], &mut out);
 }
