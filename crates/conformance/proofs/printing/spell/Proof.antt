@@ -1,0 +1,81 @@
+-- `conformance::printing::spell` is safe and ends. The loop's invariant: `i` is at most the length, and the length of the text stays. The measure is what is left of the bytes.
+use mathlib.Core.Path.{_≡_}
+use Prim.Native.Nat.{_≤_, _-_}
+use native.Mathlib.Omega.{arith}
+use lib.ListN.{length, length-set}
+use borrow.Author.Needs.{needs}
+use Rattle.conformance.proofs.printing.spell.Statement.{statement}
+use Rattle.conformance.proofs.printing.spell.Tie as tie
+
+abbrev Inv-loop : tie.InvT-loop
+Inv-loop bytes text₀ i₀ text i = (i ≤ length bytes) × (length text ≡ length text₀)
+
+abbrev μ-loop : tie.MeasureT-loop
+μ-loop bytes text₀ i₀ text i = length bytes - i
+
+loop-holds : tie.Need-loop-holds Inv-loop μ-loop
+loop-holds c = search needs
+
+shared-slice-read-high : tie.Need-shared-slice-read-high Inv-loop μ-loop
+shared-slice-read-high c = search needs
+
+high-requires : tie.Need-high-requires Inv-loop μ-loop
+high-requires c κs = search needs
+
+mul-text : tie.Need-mul-text Inv-loop μ-loop
+mul-text c = search needs
+
+slice-write-text : tie.Need-slice-write-text Inv-loop μ-loop
+slice-write-text c = search needs
+
+shared-slice-read-low : tie.Need-shared-slice-read-low Inv-loop μ-loop
+shared-slice-read-low c = search needs
+
+low-requires : tie.Need-low-requires Inv-loop μ-loop
+low-requires c κs = search needs
+
+mul-text-2 : tie.Need-mul-text-2 Inv-loop μ-loop
+mul-text-2 c = search needs
+
+add-text : tie.Need-add-text Inv-loop μ-loop
+add-text c = search needs
+
+slice-write-text-2 : tie.Need-slice-write-text-2 Inv-loop μ-loop
+slice-write-text-2 c = simp length-set (omega arith)
+
+add-i : tie.Need-add-i Inv-loop μ-loop
+add-i c = search needs
+
+loop-less : tie.Need-loop-less Inv-loop μ-loop
+loop-less c = search needs
+
+loop-again : tie.Need-loop-again Inv-loop μ-loop
+loop-again c = search needs
+
+same-length : tie.Need-same-length Inv-loop μ-loop
+same-length c = search needs
+
+returns : tie.Need-returns Inv-loop μ-loop
+returns c = search needs
+
+pub spell-spec : {M : Type 1} → statement M
+spell-spec =
+    tie.close
+    (tie.spec
+    Inv-loop
+    μ-loop
+    loop-holds
+    shared-slice-read-high
+    high-requires
+    mul-text
+    slice-write-text
+    shared-slice-read-low
+    low-requires
+    mul-text-2
+    add-text
+    slice-write-text-2
+    add-i
+    loop-less
+    loop-again
+    same-length
+    returns)

@@ -1,0 +1,111 @@
+// Lines of standard input, which is read in pieces.
+use libc::STDIN_FILENO;
+ghost use Prim.Native.Nat.{_≤_};
+ghost use lib.ListN.{length};
+
+// The most bytes of a line without its end, and of a piece.
+pub const LONGEST: usize = 65536;
+
+// Where reading stands: the bytes from `at` to `end` of the piece are still to be taken. Of the line: how
+// many of its bytes are stored, whether there are more than that, and whether it ended; and whether the
+// input ended.
+pub struct Input {
+    pub at: usize,
+    pub end: usize,
+    pub size: usize,
+    pub cut: bool,
+    pub ended: bool,
+    pub last: bool,
+}
+
+impl Input {
+    // Before anything is read.
+    pub fn new() -> Self {
+        Self {
+            at: 0,
+            end: 0,
+            size: 0,
+            cut: false,
+            ended: false,
+            last: false,
+        }
+    }
+}
+
+// Takes one byte of a line.
+fn taken(input: Input, byte: u8, line: &mut [u8]) -> Input
+    requires { ⌜ (input .size ≤ 65536) × (65536 ≤ length (now line)) ⌝ }
+    ensures { λ r. ⌜ r .size ≤ 65536 ⌝ }
+{
+    let mut next = input;
+    let size = next.size;
+    if byte == b'\n' {
+        next.ended = true;
+        return next;
+    }
+    if size >= LONGEST {
+        next.cut = true;
+        return next;
+    }
+    line[size] = byte;
+    next.size = size + 1;
+    next
+}
+
+// Reads the next piece where the last is used up.
+fn filled(input: Input, piece: &mut [u8; LONGEST]) -> Input
+    requires { ⌜ input .size ≤ 65536 ⌝ }
+    ensures { λ r. ⌜ r .size ≤ 65536 ⌝ }
+{
+    if input.at < input.end {
+        return input;
+    }
+    let mut next = input;
+    let got = libc::read(STDIN_FILENO, &mut *piece);
+    next.at = 0;
+    next.end = io::count(got, &*piece);
+    next
+}
+
+// Reads one byte; the input's end ends the line.
+fn step(input: Input, piece: &mut [u8; LONGEST], line: &mut [u8]) -> Input
+    requires { ⌜ (input .size ≤ 65536) × (65536 ≤ length (now line)) ⌝ }
+    ensures { λ r. ⌜ r .size ≤ 65536 ⌝ }
+{
+    let mut next = filled(input, &mut *piece);
+    let at = next.at;
+    if at < next.end {
+        if at < LONGEST {
+            next.at = at + 1;
+            return taken(next, piece[at], &mut *line);
+        }
+    }
+    next.ended = true;
+    next.last = true;
+    next
+}
+
+// Reads a line. Its first bytes, as many as the answer's size, stand at the front of `line`.
+pub fn read_line(input: Input, piece: &mut [u8; LONGEST], line: &mut [u8]) -> Input
+    requires { ⌜ 65536 ≤ length (now line) ⌝ }
+    ensures { λ r. ⌜ r .size ≤ 65536 ⌝ }
+{
+    let mut next = input;
+    next.size = 0;
+    next.cut = false;
+    next.ended = false;
+    let mut left: u64 = u64::MAX;
+    while left > 0 {
+        next = step(next, &mut *piece, &mut *line);
+        if next.ended {
+            return next;
+        }
+        left -= 1;
+    }
+    next
+}
+
+// Whether the input ended with no byte of a further line.
+pub fn finished(input: Input) -> bool {
+    if input.last { input.size == 0 } else { false }
+}
