@@ -5,7 +5,6 @@ use crate::numbers::capacity;
 use crate::numbers::find;
 use crate::numbers::number;
 ghost use mathlib.Core.Path.{_≡_};
-ghost use Prim.Native.Nat.{ℕ};
 ghost use Rattle.slicing.specs.Limits as Limits;
 ghost use Rattle.history.specs.Lines as Lines;
 ghost use Rattle.history.specs.Lines.{pairLine, removeLine, farRange, farDevice, threeWords, lineIn};

@@ -2,7 +2,7 @@
 --
 -- Laws: H-word, digest-word, scaled-below, pointOf-below.
 use mathlib.Core.List.{List, _++_}
-use Prim.Native.Nat.{ℕ, zero, suc, _+_, _*_, _≤_, _<_}
+use Prim.Native.Nat.{ℕ, zero, suc, _*_, _≤_, _<_}
 use native.Mathlib.Omega.{arith}
 use native.Mathlib.Nat.{div-add-mod, mul-lt-mul-of-pos-right, lt-of-mul-lt-mul-left}
 use lib.ListN.{getD}

@@ -1,10 +1,8 @@
 // The stages of a lookup on lent arrays: search by halving, the point of a probe, the walk for copies.
 // Internal: the calls of `lookups` stand on it. Nothing is asked of the arrays' numbers.
 ghost use mathlib.Core.Path.{_≡_};
-ghost use mathlib.Core.List.{_++_};
-ghost use Prim.Native.Nat.{ℕ, _+_, _-_, _≤_, _<_, min};
-ghost use lib.ListN.{length, take, replicate};
-ghost use Rattle.slicing_core.specs.Rows.{at};
+ghost use Prim.Native.Nat.{_+_, _≤_, _<_};
+ghost use lib.ListN.{length, take};
 ghost use Rattle.lookup_core.specs.Halving.{halve, ownerFound, clamped};
 ghost use Rattle.lookup_core.specs.Probes.{pointOf, member};
 ghost use Rattle.lookup_core.specs.Walks.{Walked};

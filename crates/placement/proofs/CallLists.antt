@@ -9,7 +9,7 @@ use mathlib.Core.List.{List, [], _∷_}
 use Prim.Native.Nat.{ℕ}
 use native.Mathlib.Omega.{arith}
 use Rattle.slicing.specs.Changes.{State, fresh, Outcome, change}
-use Rattle.slicing.specs.Demand3.{Demand3, Start, from-fresh, from-valid}
+use Rattle.slicing.specs.Demand3.{Demand3, from-fresh, from-valid}
 use Rattle.slicing.specs.Ledger.{blank, opened}
 use Rattle.slicing.specs.Limits.{maxRange, maxLimit, outside}
 use Rattle.slicing.specs.Runs.{intervals}

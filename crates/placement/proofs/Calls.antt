@@ -6,14 +6,14 @@
 -- change: add-two, add-four, add-six, add-settle, add-first; remove-two, remove-five, remove-seven, remove-settle; resize-two,
 -- resize-five, resize-settle
 use mathlib.Core.Path.{_≡_, refl, sym, ap, _∙_}
-use mathlib.Core.Bool.{Bool, true, false, not, _||_}
+use mathlib.Core.Bool.{Bool, true, false}
 use mathlib.Core.List.{List, [], _∷_, _++_}
-use Prim.Native.Nat.{ℕ, zero, suc, _+_, _*_, _/_, _≤_, _<_}
+use Prim.Native.Nat.{ℕ, _*_, _/_, _≤_, _<_}
 use native.Mathlib.Omega.{arith}
-use lib.Dec.{leb, ltb}
+use lib.Dec.{ltb}
 use lib.ListN.{length, drop}
 use borrow.Author.Tests.{ltb-false, le-leb, lt-leb}
-use Rattle.slicing.specs.Changes.{State, Change, add, remove, resize, Outcome, refused, stop, accepted, settledBy, settle, admit, change}
+use Rattle.slicing.specs.Changes.{State, Change, add, remove, resize, refused, stop, accepted, settledBy, settle, admit, change}
 use Rattle.slicing.specs.Demand3.{written}
 use Rattle.slicing.specs.Devices.{Device, device, present, insert, delete, update}
 use Rattle.slicing.specs.Limits.{maxDevices, maxId, maxCapacity, outside}
@@ -25,7 +25,7 @@ use Rattle.placement.specs.declared.ChangeAnswer.{ChangeAnswer}
 use Rattle.placement.specs.declared.Pool.{Pool}
 use Rattle.placement.specs.declared.settle.Plan.{Plan}
 use Rattle.placement.specs.Pools.{stateOf, poolOf, ValidPool}
-use Rattle.placement.specs.Promises.{movesIn, flat, Answered, Changed, Planned}
+use Rattle.placement.specs.Promises.{movesIn, flat, Changed, Planned}
 
 pub length-movesIn : (xs : List ℕ) → length (movesIn xs) ≡ length xs / 4
 length-movesIn [] = refl

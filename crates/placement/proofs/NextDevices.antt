@@ -6,18 +6,18 @@
 use mathlib.Core.Path.{_≡_, refl, sym, ap, ap₂, _∙_, subst}
 use mathlib.Core.Bool.{Bool, true, false, true≢false}
 use mathlib.Core.List.{List}
-use Prim.Native.Nat.{ℕ, zero, suc, _+_, _-_, _≤_, _<_}
+use Prim.Native.Nat.{ℕ, _+_, _-_, _≤_, _<_}
 use native.Mathlib.Omega.{arith}
-use lib.Dec.{eqb, ltb}
+use lib.Dec.{ltb}
 use lib.ListN.{length, set, length-set}
 use lib.Seq.{getD-set-other}
-use borrow.Author.Tests.{ltb-true, ltb-false, eqb-true, eqb-false}
-use Rattle.slicing.specs.Devices.{Device, device, ids, present, insert, delete, update, Within, Rising}
+use borrow.Author.Tests.{ltb-true, ltb-false}
+use Rattle.slicing.specs.Devices.{Device, ids, present, insert, delete, update, Rising}
 use Rattle.slicing.specs.Limits.{maxCapacity}
 use Rattle.slicing.specs.Runs.{count}
-use Rattle.slicing.proofs.Devices.{rising-distinct, present-count, insert-rising, delete-rising, update-rising}
+use Rattle.slicing.proofs.Devices.{present-count, insert-rising, delete-rising, update-rising}
 use Rattle.slicing_core.specs.Rows.{at, deviceRows}
-use Rattle.slicing_core.specs.Stages.{Ascending, Position, Inserted, Deleted}
+use Rattle.slicing_core.specs.Stages.{Position, Inserted, Deleted}
 use Rattle.slicing_core.proofs.DeviceRows.{ascending-rising, position-present, insert-rows, delete-rows, update-rows}
 use Rattle.slicing_core.proofs.Rows.{length-deviceRows}
 use Rattle.placement.specs.declared.Pool.{Pool}

@@ -1,7 +1,7 @@
 -- The pool that `settle::packed` makes.
 --
 -- Laws: below-zeros; pool-packed.
-use mathlib.Core.Path.{_≡_, refl, sym, _∙_}
+use mathlib.Core.Path.{_≡_, refl}
 use mathlib.Core.Bool.{Bool, true, false}
 use mathlib.Core.List.{List}
 use Prim.Native.Nat.{ℕ, _≤_, _<_}

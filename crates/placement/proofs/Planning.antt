@@ -2,16 +2,15 @@
 --
 -- planned-refused, planned-done (a plan from the outcome's case)
 -- Planning: total-plan, table-plan, labels-plan; plan-eight, plan-nine, plan-done
-use mathlib.Core.Path.{_≡_, refl, sym, ap, _∙_, subst}
-use mathlib.Core.Bool.{true, false}
-use mathlib.Core.List.{List, [], _∷_, _++_}
-use Prim.Native.Nat.{ℕ, suc, _+_, _%_, _≤_, _<_}
+use mathlib.Core.Path.{_≡_, sym, ap, _∙_, subst}
+use mathlib.Core.List.{List}
+use Prim.Native.Nat.{ℕ, _%_, _≤_, _<_}
 use native.Mathlib.Omega.{arith}
-use lib.Dec.{eqb, ltb}
-use lib.ListN.{length, take, drop}
+use lib.Dec.{eqb}
+use lib.ListN.{length, drop}
 use lib.Seq.{take-append-seam}
 use borrow.Author.Tests.{lt-ltb, le-ltb}
-use Rattle.slicing.specs.Changes.{State, Outcome, refused, accepted, settledBy, settle}
+use Rattle.slicing.specs.Changes.{refused, accepted, settle}
 use Rattle.slicing.specs.Demand3.{written}
 use Rattle.slicing.specs.Devices.{Device, Rising}
 use Rattle.slicing.specs.Runs.{Run, total, relabel, coalesce, Coalesced}

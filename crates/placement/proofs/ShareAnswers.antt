@@ -14,7 +14,7 @@ use Rattle.placement.specs.Pools.{stateOf, ValidPool}
 use Rattle.placement.specs.Promises.{Shared}
 use Rattle.placement.specs.declared.Pool.{Pool}
 use Rattle.placement.specs.declared.ShareAnswer.the-variants.{Share, Refused}
-use Rattle.placement.proofs.HeldRows.{shareOf-row, shareOf-none}
+use Rattle.placement.proofs.HeldRows.{shareOf-row}
 use Rattle.placement.proofs.WidePools.{rising-wide}
 
 module _ (p : Pool) (id : ℕ) where

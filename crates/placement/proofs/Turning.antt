@@ -7,14 +7,14 @@
 use mathlib.Core.Path.{_≡_, refl, sym, ap, ap₂, _∙_, fun-ext, subst}
 use mathlib.Core.Bool.{Bool, true, false, cond}
 use mathlib.Core.List.{List, [], _∷_}
-use Prim.Native.Nat.{ℕ, zero, suc, _+_, _-_, _*_, _%_, _≤_, _<_}
+use Prim.Native.Nat.{ℕ, zero, suc, _+_, _-_, _≤_, _<_}
 use native.Mathlib.Omega.{arith}
 use lib.Dec.{eqb, ltb}
 use lib.ListN.{length, List·getD-eq-default}
 use borrow.Author.Tests.{eqb-true, eqb-false, ne-eqb, ltb-true, ltb-false}
 use Rattle.slicing.specs.Devices.{Rising}
 use Rattle.slicing.specs.LargestRemainder.{largestRemainder}
-use Rattle.slicing.specs.Runs.{Run, _of_, one, total, owned, relabel, push, coalesce, Coalesced}
+use Rattle.slicing.specs.Runs.{Run, _of_, total, owned, relabel, push, coalesce, Coalesced}
 use Rattle.slicing.specs.ShareRule.{shares}
 use Rattle.slicing.specs.SixSteps.{release, needs, end, walk, fill, turns}
 use Rattle.slicing.proofs.Changes.{balanced}

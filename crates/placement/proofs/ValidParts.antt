@@ -4,17 +4,15 @@
 -- to one: parts-valid
 use mathlib.Core.Path.{_≡_, refl, sym, ap, _∙_, subst}
 use mathlib.Core.Bool.{Bool, true, false}
-use mathlib.Core.List.{List, [], _∷_, _++_}
-use Prim.Native.Nat.{ℕ, zero, suc, _+_, _-_, _≤_, _<_}
+use mathlib.Core.List.{List}
+use Prim.Native.Nat.{ℕ, zero, suc, _+_, _≤_, _<_}
 use native.Mathlib.Omega.{arith}
 use lib.Dec.{eqb}
 use lib.ListN.{length}
-use borrow.Author.Tests.{eqb-true, eq-eqb}
-use Rattle.slicing.specs.Changes.{State}
+use borrow.Author.Tests.{eqb-true}
 use Rattle.slicing.specs.Devices.{Device, ids, Rising}
 use Rattle.slicing.specs.Runs.{Run, one, total, owned, count, expand, Coalesced}
 use Rattle.slicing.specs.ShareRule.{shares, shareOf}
-use Rattle.slicing.proofs.Counting.{Distinct}
 use Rattle.slicing.proofs.Least.{rival-count}
 use Rattle.slicing.proofs.Runs.{owners, length-expand, count-expand}
 use Rattle.slicing.proofs.ShareRule.{total-shares, owners-shares, shares-distinct}

@@ -6,7 +6,7 @@
 --   Seen s ts           what the calls answered and left is what demand 3's outcomes say, from the state s on
 use mathlib.Core.List.{List, [], _∷_}
 use Prim.Native.Nat.{ℕ}
-use Rattle.slicing.specs.Changes.{State, Change, Outcome, change}
+use Rattle.slicing.specs.Changes.{State, Change, change}
 use Rattle.slicing.specs.Demand3.{Call}
 use Rattle.placement.specs.declared.ChangeAnswer.{ChangeAnswer}
 use Rattle.placement.specs.declared.Pool.{Pool}

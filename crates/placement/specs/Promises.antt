@@ -9,7 +9,7 @@
 --   Shared p id r           r is that answer of the pool p
 --   Planned p es places r   r is the plan of a change to the devices es, before anything is stored
 use mathlib.Core.Path.{_≡_}
-use mathlib.Core.Bool.{cond, _||_, not}
+use mathlib.Core.Bool.{cond, _||_}
 use mathlib.Core.List.{List, [], _∷_, _++_}
 use Prim.Native.Nat.{ℕ, _*_, _≤_}
 use lib.ListN.{length, drop}

@@ -3,7 +3,7 @@ use crate::Pool;
 use slicing_core::runs::SCRATCH;
 ghost use mathlib.Core.Path.{_≡_};
 ghost use Prim.Native.Nat.{_≤_, _<_, _^_};
-ghost use lib.ListN.{length, drop};
+ghost use lib.ListN.{length};
 ghost use Rattle.slicing.specs.Runs.{total};
 ghost use Rattle.slicing_core.specs.Rows.{rows, tableRows};
 ghost use Rattle.slicing_core.specs.Stages.{Below, Decides};

@@ -21,7 +21,6 @@ ghost use mathlib.Core.Path.{_≡_};
 ghost use Prim.Native.Nat.{_≤_, _^_};
 ghost use lib.Dec.{eqb};
 ghost use lib.ListN.{length};
-ghost use Rattle.slicing.specs.Changes.{State};
 ghost use Rattle.slicing.specs.Devices.{Rising};
 ghost use Rattle.slicing.specs.Runs.{total, relabel, coalesce, Coalesced};
 ghost use Rattle.slicing.specs.ShareRule.{shares as Rule·shares};

@@ -5,7 +5,7 @@
 --   window W t n        6.1.3, 3   the sixteen words after n rounds, the first of them round t
 --   run W v t n         6.1.3, 3   the working variables after these n rounds
 use mathlib.Core.Bool.{cond}
-use mathlib.Core.List.{List, [], _∷_, _++_}
+use mathlib.Core.List.{List}
 use Prim.Native.Nat.{ℕ, zero, suc, _+_, _%_}
 use lib.Bits.{bitXor}
 use lib.Dec.{ltb}

@@ -2,12 +2,11 @@
 // `first_word`, for twelve bytes given as numbers. The rest is internal.
 ghost use mathlib.Core.Path.{_≡_};
 ghost use mathlib.Core.List.{_++_};
-ghost use Prim.Native.Nat.{_+_, _*_, _/_, _<_, _≤_};
-ghost use lib.ListN.{length, getD};
+ghost use Prim.Native.Nat.{_/_};
+ghost use lib.ListN.{getD};
 ghost use Rattle.sha1.specs.Fips180 as Fips;
-ghost use Rattle.sha1.specs.Fips180.{bytes, ROTL};
-ghost use Rattle.sha1.specs.Sixteen.{slide, window, run};
-ghost use Rattle.sha1.specs.Promises.{limit, Digested};
+ghost use Rattle.sha1.specs.Fips180.{bytes};
+ghost use Rattle.sha1.specs.Promises.{Digested};
 
 mod functions;
 mod message;

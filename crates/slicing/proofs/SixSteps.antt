@@ -13,13 +13,13 @@ use Prim.Native.Nat.{ℕ, _+_, _-_, _*_, _≤_}
 use native.Mathlib.Omega.{arith}
 use lib.Dec.{eqb}
 use lib.ListN.{length}
-use borrow.Author.Tests.{eqb-true, eqb-false, eq-eqb, ne-eqb}
+use borrow.Author.Tests.{eqb-true, eq-eqb, ne-eqb}
 use Rattle.slicing.specs.Runs.{Run, _of_, one, total, owned, expand, count, relabel}
-use Rattle.slicing.specs.SixSteps.{release, needs, reductions, Side, end, Mark, walk, Turn, old, new, fill, turns, newTable}
+use Rattle.slicing.specs.SixSteps.{release, needs, reductions, end, Mark, walk, old, new, turns, newTable}
 use Rattle.slicing.proofs.Counting.{sumOf, Distinct, sum-eq}
 use Rattle.slicing.proofs.Filling.{changing, expand-old-fill, owned-new-fill, changing-fill}
 use Rattle.slicing.proofs.Runs.{owners, length-expand, count-expand, owned-append, owned-absent, total-append, total-owned, sum-owned, total-relabel, owned-coalesce}
-use Rattle.slicing.proofs.Walk.{holder, kepts, takens, owned-holder, expand-walk, owned-takens-walk}
+use Rattle.slicing.proofs.Walk.{holder, takens, owned-holder, expand-walk, owned-takens-walk}
 
 pub record Balanced (table has due : List (Run ℕ)) : Type 0 where
   pub hasOnce : Distinct (owners has)

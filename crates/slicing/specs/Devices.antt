@@ -8,7 +8,7 @@
 --   delete d ds        ds without the device d
 --   update d c ds      ds with another capacity of the device d
 --   Rising a ds        the devices are within their limits, and their ids rise from above a
-use mathlib.Core.Bool.{Bool, true, false, cond, _||_}
+use mathlib.Core.Bool.{Bool, false, cond, _||_}
 use mathlib.Core.List.{List, [], _∷_}
 use Prim.Native.Nat.{ℕ, _+_, _≤_, _<_}
 use lib.Dec.{eqb, ltb}

@@ -2,7 +2,7 @@
 --
 --   Quoted points ids due i left needs     what stands in the arrays after i devices
 -- Laws: owned-rows-below; quoted-none, quoted-has, quoted-more, quoted-all.
-use mathlib.Core.Path.{_≡_, refl, sym, ap, _∙_}
+use mathlib.Core.Path.{_≡_, refl, ap, _∙_}
 use mathlib.Core.Bool.{Bool, true, false}
 use mathlib.Core.List.{List, [], _∷_}
 use Prim.Native.Nat.{ℕ, zero, suc, _+_, _*_, _-_, _≤_, _<_}

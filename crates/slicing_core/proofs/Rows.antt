@@ -4,7 +4,7 @@
 -- deviceRows: deviceRows-step, deviceRows-end, deviceRows-snoc, length-deviceRows
 -- moveRows: moveRows-snoc, moveRows-same, moveRows-put
 -- at: at-zeros, at-total (a row is no longer than the rows)
-use mathlib.Core.Path.{_≡_, refl, sym, ap, _∙_}
+use mathlib.Core.Path.{_≡_, refl, ap}
 use mathlib.Core.Bool.{Bool, true, false}
 use mathlib.Core.List.{List, [], _∷_, _++_}
 use mathlib.Core.Logic.{_⊎_, inl, inr}
@@ -16,8 +16,8 @@ use lib.Dec.{eqb}
 use lib.ListN.{length, set, replicate}
 use lib.Seq.{getD-set-same, getD-set-other}
 use borrow.Author.Tests.{eqb-true, eqb-false}
-use Rattle.slicing.specs.Devices.{Device, device}
-use Rattle.slicing.specs.Runs.{Run, _of_, total}
+use Rattle.slicing.specs.Devices.{device}
+use Rattle.slicing.specs.Runs.{_of_, total}
 use Rattle.slicing.specs.SixSteps.{move}
 use Rattle.slicing_core.specs.Rows.{at, rows, deviceRows, moveRows}
 

@@ -12,7 +12,7 @@ use native.Mathlib.Omega.{arith}
 use native.Mathlib.Nat.{sub-zero}
 use lib.Dec.{eqb}
 use lib.ListN.{length, set, take, length-set}
-use borrow.Author.Tests.{eqb-true, eqb-false, eq-eqb}
+use borrow.Author.Tests.{eqb-true, eqb-false}
 use Rattle.slicing.specs.Runs.{Run, _of_, total, expand, takePoints, relabel, coalesce, Differs, Coalesced}
 use Rattle.slicing.specs.SixSteps.{end, Mark, kept, taken, walk, Turn, _⟶_, sameTurn, fill}
 use Rattle.slicing.proofs.Runs.{map-replicate, expand-relabel, coalesce-unique}

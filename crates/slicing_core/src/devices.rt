@@ -1,10 +1,8 @@
 // Rows of devices, by rising id.
-ghost use mathlib.Core.Path.{_≡_};
 ghost use mathlib.Core.Bool.{true};
-ghost use Prim.Native.Nat.{ℕ, _+_, _-_, _≤_, _<_};
-ghost use lib.ListN.{length};
-ghost use Rattle.slicing.specs.Devices.{Rising, present};
-ghost use Rattle.slicing_core.specs.Rows.{at, deviceRows};
+ghost use Prim.Native.Nat.{_+_, _-_, _≤_, _<_};
+ghost use Rattle.slicing.specs.Devices.{Rising};
+ghost use Rattle.slicing_core.specs.Rows.{deviceRows};
 ghost use Rattle.slicing_core.specs.Stages.{Decides, Inserted, Deleted, Position};
 
 // Whether the n devices are within their limits and their ids rise.

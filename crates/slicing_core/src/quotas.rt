@@ -1,9 +1,7 @@
 // Step 1: what each device must release, and what it needs.
 ghost use mathlib.Core.Path.{_≡_};
-ghost use Prim.Native.Nat.{ℕ, _-_, _≤_, _<_};
+ghost use Prim.Native.Nat.{_-_, _≤_, _<_};
 ghost use lib.ListN.{length};
-ghost use Rattle.slicing.specs.Runs.{owned};
-ghost use Rattle.slicing_core.specs.Rows.{at, rows};
 ghost use Rattle.slicing_core.specs.Stages.{Below, Ascending, Quotas};
 
 // Takes from `points`, what each device has by id, what each of the n devices is to have: what is left

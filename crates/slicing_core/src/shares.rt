@@ -4,7 +4,7 @@ ghost use Prim.Native.Nat.{_+_, _*_, _-_, _/_, _%_, _≤_, _<_, _^_};
 ghost use lib.ListN.{length};
 ghost use Rattle.slicing.specs.Devices.{capacities as capacitiesOf};
 ghost use Rattle.slicing.specs.LargestRemainder.{largestRemainder};
-ghost use Rattle.slicing_core.specs.Rows.{at, rows, deviceRows};
+ghost use Rattle.slicing_core.specs.Rows.{rows, deviceRows};
 ghost use Rattle.slicing_core.specs.Stages.{Below, Remainders};
 ghost use Rattle.slicing_core.specs.Stages.{rank as rankOf};
 

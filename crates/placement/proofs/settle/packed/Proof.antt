@@ -1,5 +1,4 @@
 -- `placement::settle::packed` meets its contract: each array is that of the state, and what it leaves is 0.
-use mathlib.Core.Path.{_∙_}
 use native.Mathlib.Omega.{arith}
 use borrow.Author.Needs.{needs}
 use Rattle.slicing_core.proofs.DeviceRows.{below-rising, capacities-rising}

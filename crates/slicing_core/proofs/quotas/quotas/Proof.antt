@@ -9,7 +9,7 @@ use mathlib.Core.Logic.{⊎-elim}
 use borrow.Author.Needs.{needs}
 use Rattle.slicing_core.specs.Rows.{at}
 use Rattle.slicing_core.proofs.Rows.{at-zeros}
-use Rattle.slicing_core.proofs.QuotaRows.{Quoted, quoted-none, quoted-has, quoted-more, quoted-all}
+use Rattle.slicing_core.proofs.QuotaRows.{Quoted, quoted-none, quoted-more, quoted-all}
 use Rattle.slicing_core.proofs.quotas.quotas.Statement.{statement}
 use Rattle.slicing_core.proofs.quotas.quotas.Tie as tie
 
