@@ -11,19 +11,15 @@ from pathlib import Path
 
 
 def framed(name, text, expected):
-    return name.ljust(16).encode() + len(text).to_bytes(4, "big") + len(expected).to_bytes(4, "big") + text + expected
-
-
-def refused(n):
-    return b"".join(b"%d 1 0 0\n" % i for i in range(1, n + 1))
+    return f"{name:16}{len(text):08}{len(expected):08}{text.hex()}{expected.decode()}"
 
 
 def borders():
-    """A text of empty lines, one of a single line without a line end, each of 65,535 to 65,537 bytes."""
+    """A single line without a line end, and one with it, each text of 65,535 to 65,537 bytes."""
     for size in (65535, 65536, 65537):
-        long = size > 65536
-        yield f"empty-{size}", b"\n" * size, b"too long\n" if long else refused(size) + b"table\n"
-        yield f"open-{size}", b"x" * size, b"too long\n" if long else refused(1) + b"table\n"
+        expected = b"too long\n" if size > 65536 else b"1 1 0 0\ntable\n"
+        yield f"open-{size}", b"x" * size, expected
+        yield f"ended-{size}", b"x" * (size - 1) + b"\n", expected
 
 
 def main():
@@ -31,7 +27,7 @@ def main():
     cases = [(path.stem, path.read_bytes(), path.with_suffix(".out").read_bytes()) for path in sorted(folder.glob("*.in"))]
     cases += borders()
     crate = Path(__file__).resolve().parent.parent / "crates" / "history_vectors"
-    (crate / "stdin").write_bytes(b"".join(framed(*case) for case in cases))
+    (crate / "stdin").write_text("".join(framed(*case) for case in cases))
     (crate / "stdout").write_text("".join(f"{name.ljust(16)} same\n" for name, _, _ in cases))
 
 

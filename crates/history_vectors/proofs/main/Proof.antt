@@ -7,13 +7,13 @@ use Rattle.history_vectors.proofs.main.Statement.{statement}
 use Rattle.history_vectors.proofs.main.Tie as tie
 
 abbrev Inv-loop : tie.InvT-loop
-Inv-loop text₀ expected₀ out₀ left₀ text expected out left = (length text ≡ 65537) × (length expected ≡ 1048576) × (length out ≡ 3145728)
+Inv-loop digits₀ text₀ expected₀ out₀ left₀ digits text expected out left = (length digits ≡ 131074) × (length text ≡ 65537) × (length expected ≡ 1048576) × (length out ≡ 3145728)
 
 abbrev μ-loop : tie.MeasureT-loop
-μ-loop text₀ expected₀ out₀ left₀ text expected out left = left
+μ-loop digits₀ text₀ expected₀ out₀ left₀ digits text expected out left = left
 
 loop-holds : tie.Need-loop-holds Inv-loop μ-loop
-loop-holds c = (length-replicate {0} {A = ℕ} 65537 0, length-replicate {0} {A = ℕ} 1048576 0, length-replicate {0} {A = ℕ} 3145728 0)
+loop-holds c = (length-replicate {0} {A = ℕ} 131074 0, length-replicate {0} {A = ℕ} 65537 0, length-replicate {0} {A = ℕ} 1048576 0, length-replicate {0} {A = ℕ} 3145728 0)
 
 slice-aggregate-run : tie.Need-slice-aggregate-run Inv-loop μ-loop
 slice-aggregate-run c = search needs
@@ -23,6 +23,9 @@ slice-aggregate-run-2 c = search needs
 
 slice-aggregate-run-3 : tie.Need-slice-aggregate-run-3 Inv-loop μ-loop
 slice-aggregate-run-3 c = search needs
+
+slice-aggregate-run-4 : tie.Need-slice-aggregate-run-4 Inv-loop μ-loop
+slice-aggregate-run-4 c = search needs
 
 run-requires : tie.Need-run-requires Inv-loop μ-loop
 run-requires c κs = search needs
@@ -52,6 +55,7 @@ main-spec =
     slice-aggregate-run
     slice-aggregate-run-2
     slice-aggregate-run-3
+    slice-aggregate-run-4
     run-requires
     returns
     sub-left
