@@ -1,0 +1,5 @@
+pub mod MoveCounts
+pub mod Outcomes
+pub mod FlatRows
+pub mod Drafts
+pub mod PassedOn
