@@ -1,21 +1,20 @@
 -- The printed table of a pool, and the transcript's answer.
 --
---   table-coalesced, table-rows   the intervals of a valid pool are those that its arrays give
+--   table-rows           the intervals of a valid pool are those that its arrays give
 --   table-place, table-put   what `put_table` answers and leaves
 --   transcribed-short, transcribed-long, transcribed-whole   the three answers of `transcript`
-use mathlib.Core.Path.{_≡_, refl, sym, ap, ap₂, _∙_}
+use mathlib.Core.Path.{_≡_, sym, ap, ap₂, _∙_}
 use mathlib.Core.List.{List, [], _∷_, _++_, append-assoc}
-use Prim.Native.Nat.{ℕ, zero, suc, _+_, _≤_, _<_}
+use Prim.Native.Nat.{ℕ, _+_, _≤_, _<_}
 use native.Mathlib.Omega.{arith}
-use lib.Dec.{eqb}
 use lib.ListN.{length, take, drop, length-append, length-take, take-append-drop}
 use borrow.Author.Tests.{lt-ltb, le-ltb}
 use Rattle.placement.specs.Pools.{stateOf, ValidPool}
 use Rattle.placement.specs.declared.Pool.{Pool}
 use Rattle.placement.proofs.PoolLaws.{intervals-rows}
-use Rattle.placement.proofs.ValidParts.{valid-covered, valid-empty}
-use Rattle.slicing.specs.Runs.{intervals, total, Coalesced}
-use Rattle.slicing_core.specs.Rows.{tableRows, intervalRows}
+use Rattle.placement.proofs.ValidParts.{valid-coalesced, valid-covers}
+use Rattle.slicing.specs.Runs.{intervals}
+use Rattle.slicing_core.specs.Rows.{intervalRows}
 use Rattle.slicing_core.proofs.Fronts.{front-put}
 use Rattle.history.specs.declared.transcripts.TranscriptAnswer.the-variants.{Printed, Refused}
 use Rattle.history.specs.Promises.{room, Transcribed}
@@ -30,20 +29,9 @@ module _ (p : Pool) (v : ValidPool p) where
   abbrev pub rowsOf : List ℕ
   rowsOf = printedRows (intervalRows (p .starts) (p .owners) (p .range) 0 (p .intervals))
 
-  covers : 1 ≤ p .intervals → total (tableRows (p .starts) (p .owners) (p .range) 0 (p .intervals)) ≡ p .range
-  covers h = go (p .devices) refl
-    where
-      go : (k : ℕ) → p .devices ≡ k → total (tableRows (p .starts) (p .owners) (p .range) 0 (p .intervals)) ≡ p .range
-      go zero e = absurd (omega (arith, valid-empty p v e))
-      go (suc k) e = valid-covered p v (omega arith) .covers
-
-  pub table-coalesced : Coalesced eqb (tableRows (p .starts) (p .owners) (p .range) 0 (p .intervals))
-  unfolding stateOf
-  table-coalesced = v .valid .coalesced
-
   table-rows : heading ++ rowsOf ≡ printedTable (stateOf p)
   unfolding stateOf
-  table-rows = ap (λ is. heading ++ printedRows is) (sym (intervals-rows (p .starts) (p .owners) (p .range) (p .intervals) table-coalesced covers))
+  table-rows = ap (λ is. heading ++ printedRows is) (sym (intervals-rows (p .starts) (p .owners) (p .range) (p .intervals) (valid-coalesced p v) (valid-covers p v)))
 
   module _ (out out1 out2 : List ℕ) (place : ℕ) (l : place ≤ length out) where
     pub table-place : (n m : ℕ) → n ≡ place + 6 → m ≡ n + length rowsOf → m ≡ place + length (printedTable (stateOf p))

@@ -1,5 +1,6 @@
 pub mod ImageSizes
 pub mod ByteNumbers
+pub mod ImageRows
 pub mod ImageLaws
 pub mod ReadColumns
 pub mod PoolsRead

@@ -4,16 +4,14 @@
 -- WrittenAs: written-invalid, written-short, written-whole
 use mathlib.Core.Path.{_≡_, refl, _∙_}
 use mathlib.Core.List.{List, _++_}
-use Prim.Native.Nat.{ℕ, zero, suc, _+_, _*_, _-_, _≤_, _<_}
+use Prim.Native.Nat.{ℕ, _+_, _*_, _-_, _≤_, _<_}
 use native.Mathlib.Omega.{arith}
 use lib.ListN.{length, take, drop, length-append}
 use borrow.Author.Tests.{lt-ltb, le-ltb}
 use Rattle.placement.specs.Pools.{stateOf, ValidPool}
 use Rattle.placement.specs.declared.Pool.{Pool}
 use Rattle.placement.proofs.PoolLaws.{length-tableRows}
-use Rattle.placement.proofs.ValidParts.{valid-covered, valid-empty}
-use Rattle.slicing.specs.Runs.{total}
-use Rattle.slicing_core.specs.Rows.{tableRows}
+use Rattle.placement.proofs.ValidParts.{valid-coalesced, valid-covers}
 use Rattle.slicing_core.proofs.Fronts.{part-put}
 use Rattle.slicing_core.proofs.Rows.{length-deviceRows}
 use Rattle.images.specs.Format.{headSize, head, imageOf}
@@ -21,7 +19,7 @@ use Rattle.images.specs.Promises.{WrittenAs}
 use Rattle.images.specs.RowBytes.{pairBytes}
 use Rattle.images.specs.declared.WriteAnswer.the-variants.{Written, Refused}
 use Rattle.images.proofs.Fronts.{length-pairBytes}
-use Rattle.images.proofs.ImageLaws.{deviceBytes-rows, intervalBytes-rows}
+use Rattle.images.proofs.ImageRows.{deviceBytes-rows, intervalBytes-rows}
 use Rattle.images.proofs.ImageSizes.{length-head, length-imageOf}
 
 -- ---- the image of a pool
@@ -33,13 +31,6 @@ module _ (p : Pool) (v : ValidPool p) where
   abbrev q : ℕ
   q = p .intervals
 
-  covers : 1 ≤ q → total (tableRows (p .starts) (p .owners) (p .range) 0 q) ≡ p .range
-  covers h = go (p .devices) refl
-    where
-      go : (k : ℕ) → p .devices ≡ k → total (tableRows (p .starts) (p .owners) (p .range) 0 q) ≡ p .range
-      go zero e = absurd (omega (arith, valid-empty p v e))
-      go (suc k) e = valid-covered p v (omega arith) .covers
-
   pub imageOf-pool : imageOf (stateOf p)
       ≡ head (p .range) (p .limit) n q ++ pairBytes 2 4 (p .ids) (p .capacities) 0 n ++ pairBytes 4 2 (p .starts) (p .owners) 0 q
   unfolding imageOf stateOf
@@ -48,7 +39,7 @@ module _ (p : Pool) (v : ValidPool p) where
         length-deviceRows (p .ids) (p .capacities) 0 n,
         length-tableRows (p .starts) (p .owners) (p .range) 0 q,
         deviceBytes-rows (p .ids) (p .capacities) 0 n,
-        intervalBytes-rows (p .starts) (p .owners) (p .range) q (v .valid .coalesced) covers,
+        intervalBytes-rows (p .starts) (p .owners) (p .range) q (valid-coalesced p v) (valid-covers p v),
       )
 
   pub image-size : length (imageOf (stateOf p)) ≡ headSize + 6 * n + 6 * q

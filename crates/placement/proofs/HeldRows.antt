@@ -1,25 +1,24 @@
 -- Laws of what the devices hold, row by row: what `covered` and `share` need.
 --
 -- owned: owned-row (of rows whose ids rise, each alone has its id)
--- shareOf: shareOf-row (the share in a row), shareOf-none (an id that is not present)
+-- shareOf: shareOf-row (the share in a row)
 -- rows: below-rows (the lengths of intervals within the range)
 -- capacities: below-capacities, some-capacities (what `shares` asks)
 -- Covered: decides-held (the last of its parts)
 use mathlib.Core.Path.{_≡_, refl, sym, ap, _∙_}
-use mathlib.Core.Bool.{Bool, false}
+use mathlib.Core.Bool.{Bool}
 use mathlib.Core.List.{List}
 use mathlib.Core.Logic.{_⊎_, inl, inr}
 use Prim.Native.Nat.{ℕ, zero, suc, _+_, _*_, _-_, _≤_, _<_, _^_}
 use native.Mathlib.Nat.{eq-or-lt-of-le}
 use native.Mathlib.Omega.{arith}
 use lib.Dec.{eqb}
-use borrow.Author.Tests.{eq-eqb, ne-eqb, ltb-false}
-use Rattle.slicing.specs.Devices.{Device, ids, capacities, present, Rising}
+use borrow.Author.Tests.{eq-eqb, ne-eqb}
+use Rattle.slicing.specs.Devices.{ids, capacities, Rising}
 use Rattle.slicing.specs.LargestRemainder.{largestRemainder}
-use Rattle.slicing.specs.Runs.{one, total, owned, count, Coalesced}
+use Rattle.slicing.specs.Runs.{one, total, owned, Coalesced}
 use Rattle.slicing.specs.ShareRule.{shares, shareOf}
-use Rattle.slicing.proofs.Devices.{present-count, rising-capacities}
-use Rattle.slicing.proofs.ShareRule.{shareOf-absent}
+use Rattle.slicing.proofs.Devices.{rising-capacities}
 use Rattle.slicing_core.specs.Rows.{at, rows, deviceRows, tableRows}
 use Rattle.slicing_core.specs.Stages.{Below, Ascending, Decides}
 use Rattle.slicing_core.proofs.DeviceRows.{ascending-rising, below-rising, capacities-rising}
@@ -53,9 +52,6 @@ pub shareOf-row : (R : ℕ) (d c due : List ℕ) (n i : ℕ) → rows due d 0 n 
     → at due i ≡ shareOf R (deviceRows d c 0 n) (at d i)
 unfolding shares
 shareOf-row R d c due n i e a h = sym (owned-row due d n i a h) ∙ ap (owned (at d i)) e
-
-pub shareOf-none : (R : ℕ) (ds : List Device) (d : ℕ) → present d ds ≡ false → shareOf R ds d ≡ 0
-shareOf-none R ds d e = shareOf-absent R ds d (omega (arith, ltb-false 0 (count d (ids ds)) (sym (present-count d ds) ∙ e)))
 
 rows-most : (k : ℕ) (xs p o : List ℕ) (R i n : ℕ) → rows xs o i n ≡ tableRows p o R i n → R ≤ k → ((j : ℕ) → j < i + n → at p j < k)
     → (j : ℕ) → i ≤ j → j < i + n → at xs j ≤ k

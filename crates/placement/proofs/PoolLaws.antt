@@ -2,6 +2,7 @@
 --
 -- lists: take-at (a list by its places), padded-zeros (zeros from n on), at-padded
 -- rows: ids-rows, capacities-rows, owners-rows, length-tableRows, startsOf-rows (starts that rise from 0 to R), intervals-rows
+-- lists that rows come from: deviceRows-of, tableRows-of
 -- pools: poolOf-parts (a pool is that of its state), stateOf-poolOf, validPool-poolOf
 use mathlib.Core.Path.{_≡_, refl, sym, ap, _∙_, subst}
 use mathlib.Core.List.{List, [], _∷_, _++_}
@@ -138,7 +139,7 @@ poolOf-parts p li lc ls lo hn hq zi zc zs zo co to =
 
 -- ---- the state of a state's pool
 
-deviceRows-of : (ds : List Device) (d c : List ℕ) (i : ℕ) → ((j : ℕ) → j < length ds → at d (i + j) ≡ at (ids ds) j)
+pub deviceRows-of : (ds : List Device) (d c : List ℕ) (i : ℕ) → ((j : ℕ) → j < length ds → at d (i + j) ≡ at (ids ds) j)
     → ((j : ℕ) → j < length ds → at c (i + j) ≡ at (capacitiesOf ds) j) → deviceRows d c i (length ds) ≡ ds
 deviceRows-of [] d c i f g = refl
 deviceRows-of (e ∷ ds) d c i f g =
@@ -151,7 +152,7 @@ deviceRows-of (e ∷ ds) d c i f g =
           (λ j h. ap (at c) (omega arith) ∙ g (suc j) (omega arith)),
     )
 
-tableRows-of : (rs : List (Run ℕ)) (p o : List ℕ) (R i x : ℕ) → ((j : ℕ) → j < length rs → at p (i + j) ≡ at (startsOf x rs) j)
+pub tableRows-of : (rs : List (Run ℕ)) (p o : List ℕ) (R i x : ℕ) → ((j : ℕ) → j < length rs → at p (i + j) ≡ at (startsOf x rs) j)
     → ((j : ℕ) → j < length rs → at o (i + j) ≡ at (ownersOf rs) j) → (1 ≤ length rs → x + total rs ≡ R) → tableRows p o R i (length rs) ≡ rs
 tableRows-of [] p o R i x f g t = refl
 tableRows-of ((n of d) ∷ []) p o R i x f g t =

@@ -1,6 +1,6 @@
 -- Validity of a pool in the parts that are decided one by one.
 --
--- from a valid pool: valid-limited, valid-cleared, valid-empty, valid-covered
+-- from a valid pool: valid-limited, valid-cleared, valid-empty, valid-covered, valid-coalesced, valid-covers
 -- to one: parts-valid
 use mathlib.Core.Path.{_≡_, refl, sym, ap, _∙_, subst}
 use mathlib.Core.Bool.{Bool, true, false}
@@ -84,6 +84,18 @@ module _ (p : Pool) (v : ValidPool p) where
     covers = v .valid .covers (some-devices h);
     held = λ i l. v .valid .held (some-devices h) (at (p .ids) i);
   }
+
+  pub valid-coalesced : Coalesced eqb (tableRows (p .starts) (p .owners) (p .range) 0 (p .intervals))
+  unfolding stateOf
+  valid-coalesced = v .valid .coalesced
+
+  -- while there is an interval, they cover the range
+  pub valid-covers : 1 ≤ p .intervals → total (tableRows (p .starts) (p .owners) (p .range) 0 (p .intervals)) ≡ p .range
+  valid-covers h = go (p .devices) refl
+    where
+      go : (k : ℕ) → p .devices ≡ k → total (tableRows (p .starts) (p .owners) (p .range) 0 (p .intervals)) ≡ p .range
+      go zero e = absurd (omega (arith, valid-empty e))
+      go (suc k) e = valid-covered (omega arith) .covers
 
 -- a listed id stands in a row
 pub record Listed (ids : List ℕ) (i n d : ℕ) : Type 0 where

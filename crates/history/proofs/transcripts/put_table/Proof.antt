@@ -1,8 +1,8 @@
 -- `history::transcripts::put_table` meets its contract: the line `table`, then the rows.
 use native.Mathlib.Omega.{arith}
 use borrow.Author.Needs.{needs}
-use Rattle.placement.proofs.ValidParts.{valid-limited}
-use Rattle.history.proofs.PrintedTables.{table-coalesced, table-place, table-put}
+use Rattle.placement.proofs.ValidParts.{valid-limited, valid-coalesced}
+use Rattle.history.proofs.PrintedTables.{table-place, table-put}
 use Rattle.history.proofs.transcripts.put_table.Statement.{statement}
 use Rattle.history.proofs.transcripts.put_table.Tie as tie
 
@@ -16,7 +16,7 @@ put-rows-requires : tie.Need-put-rows-requires
 put-rows-requires c κs =
     let s = c .before .before .before .before .before .before .before .before .before .before .before in
     let l = valid-limited (s .args .pool) (s .pre .0) in (
-      (omega (arith, l .fits, l .roomMost), l .most, table-coalesced (s .args .pool) (s .pre .0)),
+      (omega (arith, l .fits, l .roomMost), l .most, valid-coalesced (s .args .pool) (s .pre .0)),
       omega (arith, s .pre .1, c .before .before .before .before .before .put-text .ensures .0),
     )
 
