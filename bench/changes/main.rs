@@ -110,7 +110,7 @@ mod histories {
     }
 
     pub fn large() -> History {
-        History { range: 4294967296, limit: 4096, steps: steps(5, 20, 225, 275, 210, 250), repeats: 10 }
+        History { range: 4294967296, limit: 4096, steps: steps(5, 20, 250, 250, 240, 256), repeats: 10 }
     }
 
     pub fn small() -> History {
