@@ -15,4 +15,5 @@ pub mod WrittenMoves
 pub mod NextDevices
 pub mod ShareAnswers
 pub mod Calls
+pub mod Called
 pub mod CallLists

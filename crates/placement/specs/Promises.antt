@@ -5,6 +5,7 @@
 --   Fresh R M r             r answers the call for a fresh pool
 --   Answered ..             the values of an answer, from an outcome of the rules
 --   Changed p lent k r l    r answers the change k on the pool p, and l is the lent list afterwards
+--   changeOf c              the rules' change that a call asks for
 --   shareAnswer s id        the answer to the call for the share of id
 --   Shared p id r           r is that answer of the pool p
 --   Planned p es places r   r is the plan of a change to the devices es, before anything is stored
@@ -13,7 +14,7 @@ use mathlib.Core.Bool.{cond, _||_}
 use mathlib.Core.List.{List, [], _∷_, _++_}
 use Prim.Native.Nat.{ℕ, _*_, _≤_}
 use lib.ListN.{length, drop}
-use Rattle.slicing.specs.Changes.{State, fresh, Change, Outcome, refused, settle, change}
+use Rattle.slicing.specs.Changes.{State, fresh, Change, add, remove, resize, Outcome, refused, settle, change}
 use Rattle.slicing.specs.Demand3.{written}
 use Rattle.slicing.specs.Devices.{Device, present}
 use Rattle.slicing.specs.Limits.{maxRange, maxLimit, maxId, outside}
@@ -22,6 +23,8 @@ use Rattle.slicing.specs.SixSteps.{Move, move}
 use Rattle.slicing_core.specs.Rows.{moveRows}
 use Rattle.slicing_core.specs.Stages.{scratch}
 use Rattle.placement.specs.Pools.{stateOf, poolOf, ValidPool}
+use Rattle.placement.specs.declared.Call.{Call}
+use Rattle.placement.specs.declared.Call.the-variants.{Add, Remove, Resize}
 use Rattle.placement.specs.declared.ChangeAnswer.{ChangeAnswer}
 use Rattle.placement.specs.declared.Pool.{Pool}
 use Rattle.placement.specs.declared.PoolAnswer.{PoolAnswer}
@@ -57,6 +60,11 @@ pub record Answered (lent : List ℕ) (o : Outcome) (p : Pool) (r : ChangeAnswer
 pub record Changed (p : Pool) (lent : List ℕ) (k : Change) (r : ChangeAnswer) (after : List ℕ) : Type 0 where
   pub valid : ValidPool p → Answered lent (change (stateOf p) (movesIn lent) k) (poolOf (change (stateOf p) (movesIn lent) k .state)) r after
   pub invalid : (ValidPool p → ⊥) → Answered lent (refused (stateOf p) (movesIn lent) 2) p r after
+
+abbrev pub changeOf : Call → Change
+changeOf (Add d c) = add d c
+changeOf (Remove d) = remove d
+changeOf (Resize d c) = resize d c
 
 -- 2 for an id outside its limits, 5 for an absent one, else the share
 abbrev pub shareAnswer : State → ℕ → ShareAnswer

@@ -1,4 +1,5 @@
 // The offered calls.
+use crate::Call;
 use crate::ChangeAnswer;
 use crate::Pool;
 use crate::PoolAnswer;
@@ -25,7 +26,7 @@ ghost use Rattle.slicing.specs.Runs.{_of_};
 ghost use Rattle.slicing_core.specs.Rows.{at, deviceRows, moveRows};
 ghost use Rattle.slicing_core.specs.Stages.{scratch, Ascending, Position};
 ghost use Rattle.placement.specs.Pools.{poolOf, ValidPool};
-ghost use Rattle.placement.specs.Promises.{Fresh, Changed, Shared, flat};
+ghost use Rattle.placement.specs.Promises.{Fresh, Changed, Shared, changeOf, flat};
 
 // A pool without devices.
 fn bare(range: u64, limit: u32) -> Pool
@@ -266,6 +267,17 @@ pub fn resize(pool: Pool, id: u64, capacity: u64, list: &mut [u64]) -> ChangeAns
     capacities[row] = capacity;
     let plan = settle(pool, n, &ids, &capacities, list.len() / 4);
     carried(plan, &mut *list)
+}
+
+// One of the three: for callers that are handed a call.
+pub fn changed(pool: Pool, call: Call, list: &mut [u64]) -> ChangeAnswer
+    ensures { λ r. ⌜ Changed pool (now (list .entry)) (changeOf call) r (now (list .exit)) ⌝ }
+{
+    match call {
+        Call::Add(id, capacity) => add(pool, id, capacity, &mut *list),
+        Call::Remove(id) => remove(pool, id, &mut *list),
+        Call::Resize(id, capacity) => resize(pool, id, capacity, &mut *list),
+    }
 }
 
 // The share of a device. 2 for a pool that is not valid or an id outside 1 to 65,535; 5 where it is absent.

@@ -8,6 +8,7 @@ mod settle;
 pub mod valid;
 
 pub use change::add;
+pub use change::changed;
 pub use change::fresh;
 pub use change::remove;
 pub use change::resize;
@@ -29,6 +30,13 @@ pub struct Pool {
 pub struct PoolAnswer {
     pub refusal: u32,
     pub pool: Pool,
+}
+
+// A call for a change, with its arguments.
+pub enum Call {
+    Add(u64, u64),
+    Remove(u64),
+    Resize(u64, u64),
 }
 
 // The answer of a call that changes a pool: the refusal number or 0, the moved points, the number of
