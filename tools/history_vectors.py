@@ -1,17 +1,15 @@
 #!/usr/bin/env python3
-"""Writes crates/history_vectors/stdin and stdout from a folder of test vectors (histories/).
+"""Writes crates/history_vectors/data, args and stdout from a folder of test vectors (histories/).
 
 usage: tools/history_vectors.py VECTORS
 
-The head of crates/history_vectors/src/main.rt describes the input. The cases are every history of the folder with what `slices` must
-print of it, and texts around the border of 65,536 bytes whose transcripts document 01 gives: `too long` alone for one byte more.
+The head of crates/history_vectors/src/main.rt describes the files. The cases are every history of the folder with what `slices` must
+print of it, byte for byte, and texts around the border of 65,536 bytes whose transcripts document 01 gives: `too long` alone for one
+byte more. A history that isn't UTF-8 is refused, since all files of the repository are.
 """
+import shutil
 import sys
 from pathlib import Path
-
-
-def framed(name, text, expected):
-    return f"{name:16}{len(text):08}{len(expected):08}{text.hex()}{expected.decode()}"
 
 
 def borders():
@@ -27,8 +25,15 @@ def main():
     cases = [(path.stem, path.read_bytes(), path.with_suffix(".out").read_bytes()) for path in sorted(folder.glob("*.in"))]
     cases += borders()
     crate = Path(__file__).resolve().parent.parent / "crates" / "history_vectors"
-    (crate / "stdin").write_text("".join(framed(*case) for case in cases))
-    (crate / "stdout").write_text("".join(f"{name.ljust(16)} same\n" for name, _, _ in cases))
+    data = crate / "data"
+    shutil.rmtree(data, ignore_errors=True)
+    data.mkdir()
+    for name, text, expected in cases:
+        text.decode()
+        (data / f"{name}.in").write_bytes(text)
+        (data / f"{name}.out").write_bytes(expected)
+    (crate / "args").write_text("".join(f"{name}\n" for name, _, _ in cases))
+    (crate / "stdout").write_text("".join(f"{name} same\n" for name, _, _ in cases))
 
 
 main()

@@ -1,74 +1,58 @@
-// Runs histories from standard input, and compares each transcript with the one that is expected. The
-// input is made from test vectors by tools/history_vectors.py: for each history its name in 16 bytes, the
-// number of its bytes and that of the expected ones in 8 decimal digits each, its bytes in hexadecimal,
-// and then the expected ones. Prints the name of each history, and `same` or `different`.
+// Runs the histories that its arguments name, and compares each transcript with the one that is expected:
+// for the argument NAME the file NAME.in has the history and NAME.out what `slices` prints of it. Prints
+// each name, and `same`, `different`, or `missing` where one of the two files cannot be opened. The files
+// are made from test vectors by tools/history_vectors.py.
 use history::ROOM;
 use history::TranscriptAnswer;
-use libc::STDIN_FILENO;
 use libc::STDOUT_FILENO;
-ghost use Prim.Native.Nat.{_+_, _*_, _≤_, _<_};
+ghost use Prim.Native.Nat.{_≤_};
 ghost use lib.ListN.{length};
+ghost use Rattle.io.specs.Counts.{Counts};
 
-// The most bytes of a history, their digits, and the most bytes of an expected transcript.
+// One byte more than the longest history. Of a longer file only these bytes are read: what is printed of
+// it, `too long`, is printed of them as well.
 const MOST_TEXT: usize = 65537;
 
-const MOST_EXPECTED: usize = 1048576;
+// One byte more than the longest transcript that is compared. A file that has so many is different.
+const MOST_EXPECTED: usize = 1048577;
 
-const MOST_DIGITS: usize = 131074;
-
-// The value of a decimal digit, 0 of any other byte.
-fn decimal(x: u8) -> usize
-    ensures { λ r. ⌜ r < 10 ⌝ }
-{
-    if x < b'0' {
-        return 0;
-    }
-    if x > b'9' {
-        return 0;
-    }
-    (x - b'0') as usize
+enum Verdict {
+    Same,
+    Different,
+    Missing,
 }
 
-// The number in four decimal digits of a head, from place i on.
-fn thousands(head: &[u8; 32], i: usize) -> usize
-    requires { ⌜ i + 4 ≤ 32 ⌝ }
-    ensures { λ r. ⌜ r < 10000 ⌝ }
+// Copies a part of a path to place `at` on, as far as there is room; the place behind it.
+fn put(path: &mut [u8], at: usize, part: &[u8]) -> usize
+    requires { ⌜ at ≤ length (now path) ⌝ }
+    ensures { λ r. ⌜ Counts r (now (path .exit)) ⌝ }
 {
-    decimal(head[i]) * 1000
-        + decimal(head[i + 1]) * 100
-        + decimal(head[i + 2]) * 10
-        + decimal(head[i + 3])
-}
-
-// The value of a hexadecimal digit in lower case.
-fn hexadecimal(x: u8) -> u8
-    ensures { λ r. ⌜ r < 16 ⌝ }
-{
-    if x >= b'a' {
-        if x <= b'f' {
-            return x - b'a' + 10;
-        }
-        return 0;
-    }
-    decimal(x) as u8
-}
-
-// Fills a text with the bytes that hexadecimal digits give.
-fn decode(digits: &[u8], text: &mut [u8])
-    requires { ⌜ 2 * length (now text) ≤ length (now digits) ⌝ }
-{
+    let mut end = at;
     let mut i = 0;
-    while i < text.len() {
-        text[i] = hexadecimal(digits[2 * i]) * 16 + hexadecimal(digits[2 * i + 1]);
+    while i < part.len() && end < path.len() {
+        path[end] = part[i];
+        end += 1;
         i += 1;
     }
+    end
 }
 
-// The number, or b where it is above b.
-fn least(a: usize, b: usize) -> usize
-    ensures { λ r. ⌜ r ≤ b ⌝ }
+// Opens the file with a name and an ending for reading; -1 where that fails. A path that has no room here
+// is refused by `os`, as it fills all 4,096 bytes.
+fn open(name: &[u8], ending: &[u8]) -> i32 {
+    let mut path = io::buffer();
+    let dot = put(&mut path, 0, name);
+    let end = put(&mut path, dot, ending);
+    os::open_read(&path[..end])
+}
+
+// Reads a file, or as much of it as there is room for, and closes it; the number of bytes.
+fn read(fd: i32, bytes: &mut [u8]) -> usize
+    ensures { λ r. ⌜ Counts r (now (bytes .exit)) ⌝ }
 {
-    if a < b { a } else { b }
+    let n = io::read_full(fd, &mut *bytes);
+    libc::close(fd);
+    n
 }
 
 // Whether the first n bytes are the same.
@@ -101,62 +85,58 @@ fn agrees(text: &[u8], out: &mut [u8], expected: &[u8]) -> bool {
     }
 }
 
-fn print(name: &[u8], good: bool) {
+// Runs the history with a name.
+fn compare(name: &[u8], text: &mut [u8], out: &mut [u8], expected: &mut [u8]) -> Verdict {
+    let text_file = open(name, b".in");
+    if text_file < 0 {
+        return Verdict::Missing;
+    }
+    let size = read(text_file, &mut *text);
+    let expected_file = open(name, b".out");
+    if expected_file < 0 {
+        return Verdict::Missing;
+    }
+    let due = read(expected_file, &mut *expected);
+    if due == expected.len() {
+        return Verdict::Different;
+    }
+    if agrees(&text[..size], &mut *out, &expected[..due]) {
+        return Verdict::Same;
+    }
+    Verdict::Different
+}
+
+fn print(name: &[u8], verdict: Verdict) {
     io::write_all(STDOUT_FILENO, name);
-    if good {
-        io::write_all(STDOUT_FILENO, b" same\n");
-        return;
+    match verdict {
+        Verdict::Same => {
+            io::write_all(STDOUT_FILENO, b" same\n");
+        }
+        Verdict::Different => {
+            io::write_all(STDOUT_FILENO, b" different\n");
+        }
+        Verdict::Missing => {
+            io::write_all(STDOUT_FILENO, b" missing\n");
+        }
     }
-    io::write_all(STDOUT_FILENO, b" different\n");
 }
 
-// Compares one history, given by its digits.
-fn compare(name: &[u8], digits: &[u8], text: &mut [u8], out: &mut [u8], expected: &[u8])
-    requires { ⌜ 2 * length (now text) ≤ length (now digits) ⌝ }
-{
-    decode(digits, &mut *text);
-    print(name, agrees(text, &mut *out, expected));
-}
-
-// Runs one history; whether there was one.
-fn run(digits: &mut [u8], text: &mut [u8], out: &mut [u8], expected: &mut [u8]) -> bool
-    requires { ⌜ (131074 ≤ length (now digits)) × (65537 ≤ length (now text)) × (1048576 ≤ length (now expected)) ⌝ }
-{
-    let mut head = [0u8; 32];
-    if io::read_full(STDIN_FILENO, &mut head) < 32 {
-        return false;
-    }
-    let size = least(
-        thousands(&head, 16) * 10000 + thousands(&head, 20),
-        MOST_TEXT,
-    );
-    let due = least(
-        thousands(&head, 24) * 10000 + thousands(&head, 28),
-        MOST_EXPECTED,
-    );
-    let spelled = 2 * size;
-    io::read_full(STDIN_FILENO, &mut digits[..spelled]);
-    io::read_full(STDIN_FILENO, &mut expected[..due]);
-    compare(
-        &head[..16],
-        digits,
-        &mut text[..size],
-        &mut *out,
-        &expected[..due],
-    );
-    true
+// Runs the history that argument i names.
+fn run(i: usize, text: &mut [u8], out: &mut [u8], expected: &mut [u8]) {
+    let mut name = io::buffer();
+    let n = os::arg(i, &mut name);
+    let verdict = compare(&name[..n], &mut *text, &mut *out, &mut *expected);
+    print(&name[..n], verdict);
 }
 
 fn main() {
-    let mut digits = [0u8; MOST_DIGITS];
     let mut text = [0u8; MOST_TEXT];
     let mut expected = [0u8; MOST_EXPECTED];
     let mut out = [0u8; ROOM];
-    let mut left: u64 = 1000;
-    while left > 0 {
-        if !run(&mut digits, &mut text, &mut out, &mut expected) {
-            return;
-        }
-        left -= 1;
+    let count = os::arg_count();
+    let mut i = 1;
+    while i < count {
+        run(i, &mut text, &mut out, &mut expected);
+        i += 1;
     }
 }
