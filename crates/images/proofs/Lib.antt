@@ -8,4 +8,3 @@ pub mod ReadAnswers
 pub mod Fronts
 pub mod WrittenImages
 pub mod RoundTrips
-pub mod ImageLists

@@ -1,4 +1,3 @@
 pub mod Format
 pub mod RowBytes
 pub mod Promises
-pub mod ImageLedger

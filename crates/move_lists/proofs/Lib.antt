@@ -3,4 +3,3 @@ pub mod Outcomes
 pub mod FlatRows
 pub mod Drafts
 pub mod PassedOn
-pub mod CallLists

@@ -16,4 +16,3 @@ pub mod NextDevices
 pub mod ShareAnswers
 pub mod Calls
 pub mod Called
-pub mod CallLists

@@ -1,7 +1,7 @@
--- Demand 3 on what the offered calls return: of every list of calls that kept their promises, from a valid pool.
+-- Lists of the offered calls, from a valid pool.
 --
 --   seen-calls      the answers are the outcomes that demand 3 speaks of
---   calls-valid     demand 3, and that, from a valid pool: a fresh one, one that an accepted image gives, or any other
+--   calls-valid     demand 3, and that, from a valid pool
 use mathlib.Core.Path.{_≡_, sym, subst}
 use mathlib.Core.List.{List, [], _∷_, map}
 use Rattle.placement.specs.Pools.{stateOf, poolOf, ValidPool}
@@ -14,11 +14,11 @@ use Rattle.slicing.specs.Runs.{intervals}
 use Rattle.slicing.specs.Validity.{Valid}
 use Rattle.slicing.proofs.Changes.{valid-change}
 use Rattle.slicing.proofs.Demand3.{demand3}
-use Rattle.move_lists.specs.CallLists.{Step, Kept, callsOf, Seen}
 use Rattle.move_lists.specs.Promises.{moveOf, Answered}
+use Rattle.demand3.specs.CallLists.{Step, Kept, callsOf, Seen}
 
 -- a pool that holds the valid state s
-seen-from : (s : State) → Valid s → (ts : List Step) → Kept (poolOf s) ts → Seen s ts
+pub seen-from : (s : State) → Valid s → (ts : List Step) → Kept (poolOf s) ts → Seen s ts
 seen-from s v [] k = tt
 seen-from s v (t ∷ ts) k =
     let o : Outcome = change s (map moveOf (t .lent)) (t .change) in

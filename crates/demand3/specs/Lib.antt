@@ -1,0 +1,3 @@
+pub mod CallLists
+pub mod ImageLedger
+pub mod Openings
