@@ -1,12 +1,15 @@
--- From the rules' outcome of a call to its promise.
+-- From the answers on a call's way to its promise.
+--
+--   Refuses p x r               r refuses with the number x and leaves the pool p
+--   Carries plan lent r after   r answers the plan, and after is the lent list with its moves
 --
 -- lists: length-movesIn
--- Changed: changed-invalid, changed-refused, changed-planned, changed-first
--- settle: count-fits
--- change: add-two, add-four, add-six, add-settle, add-first; remove-two, remove-five, remove-seven, remove-settle; resize-two,
+-- Changed: changed-refused, changed-two (a pool that is not valid, or a number outside its limits), changed-first, changed-planned
+-- settle: planned-fits
+-- the checks: add-two, add-four, add-six, add-first, add-settle; remove-two, remove-five, remove-seven, remove-settle; resize-two,
 -- resize-five, resize-settle
 use mathlib.Core.Path.{_≡_, refl, sym, ap, _∙_}
-use mathlib.Core.Bool.{Bool, true, false}
+use mathlib.Core.Bool.{Bool, true, false, _||_}
 use mathlib.Core.List.{List, [], _∷_, _++_}
 use Prim.Native.Nat.{ℕ, _*_, _/_, _≤_, _<_}
 use native.Mathlib.Omega.{arith}
@@ -20,12 +23,15 @@ use Rattle.slicing.specs.Limits.{maxDevices, maxId, maxCapacity, outside}
 use Rattle.slicing.specs.Runs.{Run, _of_}
 use Rattle.slicing.specs.ShareRule.{shares}
 use Rattle.slicing.specs.SixSteps.{Turn, turns, newTable, Move, moves}
-use Rattle.slicing_core.specs.Rows.{moveRows}
+use Rattle.slicing_core.specs.Rows.{deviceRows, moveRows}
+use Rattle.slicing_core.specs.Stages.{scratch}
 use Rattle.placement.specs.declared.ChangeAnswer.{ChangeAnswer}
 use Rattle.placement.specs.declared.Pool.{Pool}
 use Rattle.placement.specs.declared.settle.Plan.{Plan}
 use Rattle.placement.specs.Pools.{stateOf, poolOf, ValidPool}
 use Rattle.placement.specs.Promises.{movesIn, flat, Changed, Planned}
+use Rattle.placement.proofs.NextDevices.{Next}
+use Rattle.placement.proofs.OpenedPools.{length-devices}
 
 pub length-movesIn : (xs : List ℕ) → length (movesIn xs) ≡ length xs / 4
 length-movesIn [] = refl
@@ -36,64 +42,70 @@ length-movesIn (a ∷ b ∷ c ∷ d ∷ xs) = omega (arith, length-movesIn xs)
 
 -- ---- the promise from the outcome
 
--- an answer that refuses with the number x and leaves the pool
 abbrev pub Refuses : Pool → ℕ → ChangeAnswer → Type 0
 Refuses p x r = (r .refusal ≡ x) × (r .moved ≡ 0) × (r .count ≡ 0) × (r .pool ≡ p)
 
-pub changed-invalid : (p : Pool) (lent : List ℕ) (k : Change) (r : ChangeAnswer) → (ValidPool p → ⊥) → Refuses p 2 r → Changed p lent k r lent
-changed-invalid p lent k r n e = record {
-  valid = λ v. absurd (n v);
-  invalid = λ h. record { number = e .0; moved = e .1; count = e .2; pool = e .3; list = refl };
-}
+abbrev pub Carries : Plan → List ℕ → ChangeAnswer → List ℕ → Type 0
+Carries plan lent r after =
+    ((r .refusal ≡ plan .refusal) × (r .moved ≡ plan .moves .points) × (r .count ≡ plan .moves .count) × (r .pool ≡ plan .pool))
+    × (after ≡ flat (moveRows (plan .moves .starts) (plan .moves .sizes) (plan .moves .labels) 0 (plan .moves .count)) ++ drop (4 * plan .moves .count) lent)
 
-pub changed-refused : (p : Pool) (lent : List ℕ) (k : Change) (r : ChangeAnswer) (x : ℕ) → ValidPool p → Refuses p x r
-    → change (stateOf p) (movesIn lent) k ≡ refused (stateOf p) (movesIn lent) x → Changed p lent k r lent
-changed-refused p lent k r x v e o = record {
-  valid = λ h. record {
-    number = e .0 ∙ sym (ap (λ q. q .number) o);
-    moved = e .1 ∙ sym (ap (λ q. q .moved) o);
-    count = e .2 ∙ sym (ap (λ q. q .count) o);
-    pool = e .3 ∙ sym (v .same) ∙ sym (ap (λ q. poolOf (q .state)) o);
-    list = sym (ap (λ q. flat (written q) ++ drop (4 * q .count) lent) o);
-  };
-  invalid = λ n. absurd (n v);
-}
+module _ {p : Pool} {lent : List ℕ} {k : Change} {r : ChangeAnswer} where
+  changed-refused : {x : ℕ} → ValidPool p → Refuses p x r → change (stateOf p) (movesIn lent) k ≡ refused (stateOf p) (movesIn lent) x → Changed p lent k r lent
+  changed-refused v e o = record {
+    valid = λ h. record {
+      number = e .0 ∙ sym (ap (λ q. q .number) o);
+      moved = e .1 ∙ sym (ap (λ q. q .moved) o);
+      count = e .2 ∙ sym (ap (λ q. q .count) o);
+      pool = e .3 ∙ sym (v .same) ∙ sym (ap (λ q. poolOf (q .state)) o);
+      list = sym (ap (λ q. flat (written q) ++ drop (4 * q .count) lent) o);
+    };
+    invalid = λ n. absurd (n v);
+  }
 
--- the first device of a pool
-pub changed-first : (p : Pool) (lent : List ℕ) (k : Change) (r : ChangeAnswer) (q : Pool) (es : List Device) (table : List (Run ℕ)) → ValidPool p → Refuses q 0 r
-    → q ≡ poolOf (record { range = stateOf p .range; limit = stateOf p .limit; devices = es; table = table })
-    → change (stateOf p) (movesIn lent) k ≡ accepted (stateOf p) (movesIn lent) es table [] → Changed p lent k r lent
-changed-first p lent k r q es table v e s o = record {
-  valid = λ h. record {
-    number = e .0 ∙ sym (ap (λ u. u .number) o);
-    moved = e .1 ∙ sym (ap (λ u. u .moved) o);
-    count = e .2 ∙ sym (ap (λ u. u .count) o);
-    pool = e .3 ∙ s ∙ sym (ap (λ u. poolOf (u .state)) o);
-    list = sym (ap (λ u. flat (written u) ++ drop (4 * u .count) lent) o);
-  };
-  invalid = λ n. absurd (n v);
-}
+  changed-two : (b : Bool) → (ValidPool p × (b ≡ false) → ⊥) → Refuses p 2 r
+      → (b ≡ true → change (stateOf p) (movesIn lent) k ≡ refused (stateOf p) (movesIn lent) 2) → Changed p lent k r lent
+  changed-two b n e o = record {
+    valid = λ v. changed-refused v e (o (otherwise b (λ h. n (v, h)))) .valid v;
+    invalid = λ h. record { number = e .0; moved = e .1; count = e .2; pool = e .3; list = refl };
+  }
+    where
+      otherwise : (t : Bool) → (t ≡ false → ⊥) → t ≡ true
+      otherwise true h = refl
+      otherwise false h = absurd (h refl)
 
-pub changed-planned : (p : Pool) (lent : List ℕ) (k : Change) (r : ChangeAnswer) (after : List ℕ) (es : List Device) (plan : Plan) → ValidPool p
-    → Planned p es (length lent / 4) plan
-    → (r .refusal ≡ plan .refusal) × (r .moved ≡ plan .moves .points) × (r .count ≡ plan .moves .count) × (r .pool ≡ plan .pool)
-    → after ≡ flat (moveRows (plan .moves .starts) (plan .moves .sizes) (plan .moves .labels) 0 (plan .moves .count)) ++ drop (4 * plan .moves .count) lent
-    → change (stateOf p) (movesIn lent) k ≡ settle (stateOf p) (movesIn lent) es → Changed p lent k r after
-changed-planned p lent k r after es plan v m e a o = record {
-  valid = λ h. record {
-    number = e .0 ∙ m .number (movesIn lent) l ∙ sym (ap (λ u. u .number) o);
-    moved = e .1 ∙ m .moved (movesIn lent) l ∙ sym (ap (λ u. u .moved) o);
-    count = e .2 ∙ m .count (movesIn lent) l ∙ sym (ap (λ u. u .count) o);
-    pool = e .3 ∙ m .pool (movesIn lent) l ∙ sym (ap (λ u. poolOf (u .state)) o);
-    list = a ∙ ap (λ ms. flat ms ++ drop (4 * plan .moves .count) lent) (m .moves (movesIn lent) l)
-        ∙ ap (λ n. flat (written (settle (stateOf p) (movesIn lent) es)) ++ drop (4 * n) lent) (m .count (movesIn lent) l)
-        ∙ sym (ap (λ u. flat (written u) ++ drop (4 * u .count) lent) o);
-  };
-  invalid = λ n. absurd (n v);
-}
-  where
-    l : length (movesIn lent) ≡ length lent / 4
-    l = length-movesIn lent
+  -- the first device of a pool
+  changed-first : {es : List Device} {table : List (Run ℕ)} → ValidPool p
+      → Refuses (poolOf (record { range = stateOf p .range; limit = stateOf p .limit; devices = es; table = table })) 0 r
+      → change (stateOf p) (movesIn lent) k ≡ accepted (stateOf p) (movesIn lent) es table [] → Changed p lent k r lent
+  changed-first v e o = record {
+    valid = λ h. record {
+      number = e .0 ∙ sym (ap (λ u. u .number) o);
+      moved = e .1 ∙ sym (ap (λ u. u .moved) o);
+      count = e .2 ∙ sym (ap (λ u. u .count) o);
+      pool = e .3 ∙ sym (ap (λ u. poolOf (u .state)) o);
+      list = sym (ap (λ u. flat (written u) ++ drop (4 * u .count) lent) o);
+    };
+    invalid = λ n. absurd (n v);
+  }
+
+  changed-planned : {after : List ℕ} {es : List Device} {plan : Plan} → ValidPool p → Planned p es (length lent / 4) plan → Carries plan lent r after
+      → change (stateOf p) (movesIn lent) k ≡ settle (stateOf p) (movesIn lent) es → Changed p lent k r after
+  changed-planned {after} {es} {plan} v m e o = record {
+    valid = λ h. record {
+      number = e .0 .0 ∙ m .number (movesIn lent) l ∙ sym (ap (λ u. u .number) o);
+      moved = e .0 .1 ∙ m .moved (movesIn lent) l ∙ sym (ap (λ u. u .moved) o);
+      count = e .0 .2 ∙ m .count (movesIn lent) l ∙ sym (ap (λ u. u .count) o);
+      pool = e .0 .3 ∙ m .pool (movesIn lent) l ∙ sym (ap (λ u. poolOf (u .state)) o);
+      list = e .1 ∙ ap (λ ms. flat ms ++ drop (4 * plan .moves .count) lent) (m .moves (movesIn lent) l)
+          ∙ ap (λ n. flat (written (settle (stateOf p) (movesIn lent) es)) ++ drop (4 * n) lent) (m .count (movesIn lent) l)
+          ∙ sym (ap (λ u. flat (written u) ++ drop (4 * u .count) lent) o);
+    };
+    invalid = λ n. absurd (n v);
+  }
+    where
+      l : length (movesIn lent) ≡ length lent / 4
+      l = length-movesIn lent
 
 -- the moves of an outcome fit the list
 count-settled : (s : State) (lent : List Move) (ts : List (Run Turn)) (es : List Device) → settledBy s lent ts es .count ≤ length lent
@@ -105,78 +117,88 @@ count-settled s lent ts es = go (ltb (s .limit) (length (newTable ts))) (ltb (le
     go false true e = omega arith
     go false false e = ltb-false (length lent) (length (moves ts)) e
 
-pub count-fits : (p : Pool) (es : List Device) (lent : List ℕ) (plan : Plan) → Planned p es (length lent / 4) plan → 4 * plan .moves .count ≤ length lent
-count-fits p es lent plan m =
-    omega (
-      arith,
-      m .count (movesIn lent) (length-movesIn lent),
-      count-settled (stateOf p) (movesIn lent)
-          (turns (stateOf p .table) (shares (stateOf p .range) (stateOf p .devices)) (shares (stateOf p .range) es)) es,
-      length-movesIn lent,
-    )
+-- what `change::carried` asks of a plan
+pub planned-fits : {p : Pool} {es : List Device} {plan : Plan} (lent : List ℕ) → Planned p es (length lent / 4) plan
+    → (plan .moves .count ≤ scratch) × (4 * plan .moves .count ≤ length lent)
+planned-fits {p} {es} lent m = (
+  m .room,
+  omega (
+    arith,
+    m .count (movesIn lent) (length-movesIn lent),
+    count-settled (stateOf p) (movesIn lent)
+        (turns (stateOf p .table) (shares (stateOf p .range) (stateOf p .devices)) (shares (stateOf p .range) es)) es,
+    length-movesIn lent,
+  ),
+)
 
 -- ---- the checks, one after another
 
-module _ (s : State) (lent : List Move) (d : ℕ) where
-  pub add-two-id : (c : ℕ) → outside maxId d ≡ true → change s lent (add d c) ≡ refused s lent 2
+admit-some : (s : State) (lent : List Move) (d c : ℕ) (ds : List Device) → 1 ≤ length ds → admit s lent d c ds ≡ settle s lent (insert d c ds)
+admit-some s lent d c [] l = absurd (omega arith)
+admit-some s lent d c (x ∷ ds) l = refl
+
+module _ {p : Pool} {lent : List ℕ} {d c : ℕ} {r : ChangeAnswer} where
+  module _ (n : ValidPool p × (outside maxId d || outside maxCapacity c ≡ false) → ⊥) (e : Refuses p 2 r) where
+    pub add-two : Changed p lent (add d c) r lent
+    unfolding change
+    add-two = changed-two (outside maxId d || outside maxCapacity c) n e (λ h. rw h)
+
+    pub resize-two : Changed p lent (resize d c) r lent
+    unfolding change
+    resize-two = changed-two (outside maxId d || outside maxCapacity c) n e (λ h. rw h)
+
+  module _ (v : ValidPool p × (outside maxId d || outside maxCapacity c ≡ false)) where
+    pub add-four : Refuses p 4 r → present d (stateOf p .devices) ≡ true → Changed p lent (add d c) r lent
+    unfolding change
+    add-four e g = changed-refused (v .0) e (rw (v .1, g))
+
+    pub add-six : Refuses p 6 r → present d (stateOf p .devices) ≡ false → maxDevices ≤ p .devices → Changed p lent (add d c) r lent
+    unfolding change
+    add-six e g l = changed-refused (v .0) e (rw (v .1, g, le-leb maxDevices (length (stateOf p .devices)) (omega (arith, length-devices p))))
+
+    pub add-first : Refuses (poolOf (record { range = p .range; limit = p .limit; devices = device d c ∷ []; table = (p .range of d) ∷ [] })) 0 r
+        → p .devices ≡ 0 → Changed p lent (add d c) r lent
+    unfolding stateOf change
+    add-first e z =
+        let none : stateOf p .devices ≡ [] = ap (deviceRows (p .ids) (p .capacities) 0) z in
+        changed-first (v .0) e (rw (v .1, none))
+
+    pub resize-five : Refuses p 5 r → present d (stateOf p .devices) ≡ false → Changed p lent (resize d c) r lent
+    unfolding change
+    resize-five e g = changed-refused (v .0) e (rw (v .1, g))
+
+    module _ {after ids capacities : List ℕ} {m : ℕ} {plan : Plan} (s : Planned p (deviceRows ids capacities 0 m) (length lent / 4) plan)
+        (e : Carries plan lent r after) where
+      pub add-settle : present d (stateOf p .devices) ≡ false → p .devices < maxDevices → 1 ≤ p .devices
+          → Next (insert d c (stateOf p .devices)) ids capacities m → Changed p lent (add d c) r after
+      unfolding change
+      add-settle g l some x =
+          changed-planned (v .0) s e
+          (rw (v .1, g, lt-leb maxDevices (length (stateOf p .devices)) (omega (arith, length-devices p)))
+          (admit-some (stateOf p) (movesIn lent) d c (stateOf p .devices) (omega (arith, length-devices p)) ∙ ap (settle (stateOf p) (movesIn lent)) (sym (x .rows))))
+
+      pub resize-settle : present d (stateOf p .devices) ≡ true → Next (update d c (stateOf p .devices)) ids capacities m → Changed p lent (resize d c) r after
+      unfolding change
+      resize-settle g x = changed-planned (v .0) s e (rw (v .1, g) (ap (settle (stateOf p) (movesIn lent)) (sym (x .rows))))
+
+module _ {p : Pool} {lent : List ℕ} {d : ℕ} {r : ChangeAnswer} where
+  pub remove-two : (ValidPool p × (outside maxId d ≡ false) → ⊥) → Refuses p 2 r → Changed p lent (remove d) r lent
   unfolding change
-  add-two-id c e = rw e
+  remove-two n e = changed-two (outside maxId d) n e (λ h. rw h)
 
-  pub add-two-capacity : (c : ℕ) → outside maxId d ≡ false → outside maxCapacity c ≡ true → change s lent (add d c) ≡ refused s lent 2
-  unfolding change
-  add-two-capacity c e f = rw (e, f)
-
-  module _ (c : ℕ) (e : outside maxId d ≡ false) (f : outside maxCapacity c ≡ false) where
-    pub add-four : present d (s .devices) ≡ true → change s lent (add d c) ≡ refused s lent 4
+  module _ (v : ValidPool p × (outside maxId d ≡ false)) where
+    pub remove-five : Refuses p 5 r → present d (stateOf p .devices) ≡ false → Changed p lent (remove d) r lent
     unfolding change
-    add-four g = rw (e, f, g)
+    remove-five e g = changed-refused (v .0) e (rw (v .1, g))
 
-    pub add-six : present d (s .devices) ≡ false → maxDevices ≤ length (s .devices) → change s lent (add d c) ≡ refused s lent 6
+    pub remove-seven : Refuses p 7 r → present d (stateOf p .devices) ≡ true → p .devices ≤ 1 → Changed p lent (remove d) r lent
     unfolding change
-    add-six g l = rw (e, f, g, le-leb maxDevices (length (s .devices)) l)
+    remove-seven e g l = changed-refused (v .0) e (rw (v .1, g, le-leb (length (stateOf p .devices)) 1 (omega (arith, length-devices p))))
 
-    pub add-first : s .devices ≡ [] → change s lent (add d c) ≡ accepted s lent (device d c ∷ []) ((s .range of d) ∷ []) []
+    pub remove-settle : {after ids capacities : List ℕ} {m : ℕ} {plan : Plan} → Planned p (deviceRows ids capacities 0 m) (length lent / 4) plan
+        → Carries plan lent r after → present d (stateOf p .devices) ≡ true → 1 < p .devices
+        → Next (delete d (stateOf p .devices)) ids capacities m → Changed p lent (remove d) r after
     unfolding change
-    add-first g = rw (e, f, g)
-
-    admit-some : (ds : List Device) → 1 ≤ length ds → admit s lent d c ds ≡ settle s lent (insert d c ds)
-    admit-some [] l = absurd (omega arith)
-    admit-some (x ∷ ds) l = refl
-
-    pub add-settle : present d (s .devices) ≡ false → length (s .devices) < maxDevices → 1 ≤ length (s .devices)
-        → change s lent (add d c) ≡ settle s lent (insert d c (s .devices))
-    unfolding change
-    add-settle g l m = rw (e, f, g, lt-leb maxDevices (length (s .devices)) l) (admit-some (s .devices) m)
-
-    pub resize-five : present d (s .devices) ≡ false → change s lent (resize d c) ≡ refused s lent 5
-    unfolding change
-    resize-five g = rw (e, f, g)
-
-    pub resize-settle : present d (s .devices) ≡ true → change s lent (resize d c) ≡ settle s lent (update d c (s .devices))
-    unfolding change
-    resize-settle g = rw (e, f, g)
-
-  pub resize-two-id : (c : ℕ) → outside maxId d ≡ true → change s lent (resize d c) ≡ refused s lent 2
-  unfolding change
-  resize-two-id c e = rw e
-
-  pub resize-two-capacity : (c : ℕ) → outside maxId d ≡ false → outside maxCapacity c ≡ true → change s lent (resize d c) ≡ refused s lent 2
-  unfolding change
-  resize-two-capacity c e f = rw (e, f)
-
-  pub remove-two : outside maxId d ≡ true → change s lent (remove d) ≡ refused s lent 2
-  unfolding change
-  remove-two e = rw e
-
-  module _ (e : outside maxId d ≡ false) where
-    pub remove-five : present d (s .devices) ≡ false → change s lent (remove d) ≡ refused s lent 5
-    unfolding change
-    remove-five g = rw (e, g)
-
-    pub remove-seven : present d (s .devices) ≡ true → length (s .devices) ≤ 1 → change s lent (remove d) ≡ refused s lent 7
-    unfolding change
-    remove-seven g l = rw (e, g, le-leb (length (s .devices)) 1 l)
-
-    pub remove-settle : present d (s .devices) ≡ true → 1 < length (s .devices) → change s lent (remove d) ≡ settle s lent (delete d (s .devices))
-    unfolding change
-    remove-settle g l = rw (e, g, lt-leb (length (s .devices)) 1 l)
+    remove-settle s e g l x =
+        changed-planned (v .0) s e
+        (rw (v .1, g, lt-leb (length (stateOf p .devices)) 1 (omega (arith, length-devices p))) (ap (settle (stateOf p) (movesIn lent)) (sym (x .rows))))

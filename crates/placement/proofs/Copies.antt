@@ -3,12 +3,13 @@
 --   Copied xs k n into i      of the n numbers of xs, the first i stand in into, each below k
 --
 -- Copied: copied-none, copied-more, copied-all
-use mathlib.Core.Path.{_≡_, refl, sym, _∙_}
+-- Widened: widened-length
+use mathlib.Core.Path.{_≡_, refl, sym, _∙_, subst}
 use mathlib.Core.List.{List}
 use Prim.Native.Nat.{ℕ, _+_, _≤_, _<_}
 use native.Mathlib.Omega.{arith}
 use native.Mathlib.Numerals.{add-one}
-use lib.ListN.{length, take, set, replicate, length-set, length-replicate}
+use lib.ListN.{length, take, set, length-set}
 use lib.Seq.{take-all, take-suc, take-suc-set}
 use borrow.Author.Count.{below-none, below-more}
 use Rattle.slicing_core.specs.Rows.{at}
@@ -21,8 +22,8 @@ pub record Copied (xs : List ℕ) (k n : ℕ) (into : List ℕ) (i : ℕ) : Type
   pub same : take i into ≡ take i xs
   pub below : Below k xs i
 
-pub copied-none : (xs : List ℕ) (k n : ℕ) → Copied xs k n (replicate n 0) 0
-copied-none xs k n = record { passed = omega arith; size = length-replicate n 0; same = refl; below = below-none _ }
+pub copied-none : (xs : List ℕ) (k n : ℕ) (into : List ℕ) → length into ≡ n → Copied xs k n into 0
+copied-none xs k n into l = record { passed = omega arith; size = l; same = refl; below = below-none _ }
 
 module _ (xs : List ℕ) (k n : ℕ) (into : List ℕ) (i : ℕ) (long : length xs ≡ n) (d : Copied xs k n into i) where
   pub copied-more : i < n → at xs i < k → Copied xs k n (set into i (at xs i)) (i + 1)
@@ -42,3 +43,6 @@ module _ (xs : List ℕ) (k n : ℕ) (into : List ℕ) (i : ℕ) (long : length 
         size = long;
         below = rw e at (d .below);
       }
+
+pub widened-length : {xs r : List ℕ} {k n : ℕ} → Widened xs k (length xs) r → length xs ≡ n → Widened xs k n r
+widened-length {xs} {r} {k} w l = subst (λ (m : ℕ). Widened xs k m r) l w

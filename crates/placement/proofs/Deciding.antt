@@ -1,8 +1,9 @@
 -- Laws of a Bool that says whether a fact holds.
 --
--- Decides: decides-leb (the fact is an order of two numbers), decides-eqb (that they are equal), decides-iff (two facts that follow from each other)
-use mathlib.Core.Path.{_≡_, refl}
-use mathlib.Core.Bool.{Bool, true, false}
+-- Decides: decides-leb (the fact is an order of two numbers), decides-eqb (that they are equal), decides-iff (two facts that follow from each other),
+-- decides-not (besides a fact that holds, that a test is false), decides-or (the same of a second test)
+use mathlib.Core.Path.{_≡_, refl, sym, _∙_}
+use mathlib.Core.Bool.{Bool, true, false, true≢false, not, _||_}
 use Prim.Native.Nat.{ℕ, _≤_}
 use native.Mathlib.Omega.{arith}
 use lib.Dec.{leb, eqb}
@@ -26,3 +27,10 @@ decides-eqb {P} m n g f = pick (eqb m n) refl
 pub decides-iff : {P Q : Type 0} (b : Bool) → (P → Q) → (Q → P) → Decides b P → Decides b Q
 decides-iff true f g d = f d
 decides-iff false f g d = λ q. d (g q)
+
+pub decides-not : {P : Type 0} (b : Bool) {t : Bool} → b ≡ t → P → Decides (not b) (P × (t ≡ false))
+decides-not true e p = λ h. true≢false (e ∙ h .1)
+decides-not false e p = (p, sym e)
+
+pub decides-or : {P : Type 0} (b : Bool) {s t : Bool} → b ≡ t → P × (s ≡ false) → Decides (not b) (P × (s || t ≡ false))
+decides-or {P} b {s} {t} e p = rw (p .1) (decides-not b e (p .0))

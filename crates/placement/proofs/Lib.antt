@@ -12,6 +12,7 @@ pub mod Turning
 pub mod Packing
 pub mod Planning
 pub mod WrittenMoves
+pub mod OpenedPools
 pub mod NextDevices
 pub mod ShareAnswers
 pub mod Calls

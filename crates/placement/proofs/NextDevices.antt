@@ -1,10 +1,11 @@
 -- The devices after a change, in rows: what `settle::settle` asks of them.
 --
 --   Next es d c n     the arrays d and c hold the n devices es, and nothing else
--- wide: wide-rows (the widened arrays hold the pool's devices), wide-rising
--- Next: next-insert, next-delete, next-update
-use mathlib.Core.Path.{_≡_, refl, sym, ap, ap₂, _∙_, subst}
-use mathlib.Core.Bool.{Bool, true, false, true≢false}
+--
+-- limits: both-inside
+-- Next: next-insert, next-delete, next-update, next-settle (what `settle::settle` asks)
+use mathlib.Core.Path.{_≡_, refl, sym, ap, _∙_, subst}
+use mathlib.Core.Bool.{Bool, true, false, true≢false, _||_}
 use mathlib.Core.List.{List}
 use Prim.Native.Nat.{ℕ, _+_, _-_, _≤_, _<_}
 use native.Mathlib.Omega.{arith}
@@ -13,16 +14,16 @@ use lib.ListN.{length, set, length-set}
 use lib.Seq.{getD-set-other}
 use borrow.Author.Tests.{ltb-true, ltb-false}
 use Rattle.slicing.specs.Devices.{Device, ids, present, insert, delete, update, Rising}
-use Rattle.slicing.specs.Limits.{maxCapacity}
+use Rattle.slicing.specs.Limits.{maxId, maxCapacity, outside}
 use Rattle.slicing.specs.Runs.{count}
+use Rattle.slicing.proofs.Changes.{or-false, outside-false}
 use Rattle.slicing.proofs.Devices.{present-count, insert-rising, delete-rising, update-rising}
 use Rattle.slicing_core.specs.Rows.{at, deviceRows}
 use Rattle.slicing_core.specs.Stages.{Position, Inserted, Deleted}
-use Rattle.slicing_core.proofs.DeviceRows.{ascending-rising, position-present, insert-rows, delete-rows, update-rows}
-use Rattle.slicing_core.proofs.Rows.{length-deviceRows}
+use Rattle.slicing_core.proofs.DeviceRows.{position-present, insert-rows, delete-rows, update-rows}
 use Rattle.placement.specs.declared.Pool.{Pool}
-use Rattle.placement.specs.Pools.{stateOf, ValidPool, Zeros, Widened}
-use Rattle.placement.proofs.ValidParts.{valid-rising, valid-cleared, valid-limited}
+use Rattle.placement.specs.Pools.{stateOf, ValidPool, Zeros}
+use Rattle.placement.proofs.OpenedPools.{Opened, opened-rows, opened-rising, opened-ascending, opened-ids, opened-capacities, cleared-ids, cleared-capacities}
 
 pub record Next (es : List Device) (d c : List ℕ) (n : ℕ) : Type 0 where
   pub some : 1 ≤ n
@@ -57,85 +58,81 @@ zeros-set n p v xs h z j a b = getD-set-other xs p j v 0 (λ e. omega arith) ∙
 
 -- ---- the pool's own devices
 
-module _ (p : Pool) (v : ValidPool p) (d c : List ℕ) (wd : Widened (p .ids) 65536 256 d) (wc : Widened (p .capacities) 4294967296 256 c) where
-  pub wide-rows : deviceRows d c 0 (p .devices) ≡ stateOf p .devices
-  unfolding stateOf
-  wide-rows = ap₂ (λ x y. deviceRows x y 0 (p .devices)) (wd .same) (wc .same)
+pub both-inside : (d c : ℕ) → outside maxId d || outside maxCapacity c ≡ false → ((1 ≤ d) × (d ≤ maxId)) × ((1 ≤ c) × (c ≤ maxCapacity))
+both-inside d c e =
+    let i : (outside maxId d ≡ false) × (outside maxCapacity c ≡ false) = or-false (outside maxId d) (outside maxCapacity c) e in
+    (outside-false maxId d (i .0), outside-false maxCapacity c (i .1))
 
-  pub wide-rising : Rising 0 (deviceRows d c 0 (p .devices))
-  unfolding stateOf
-  wide-rising = subst (Rising 0) (sym wide-rows) (valid-rising p v)
+module _ {p : Pool} {d c : List ℕ} (o : Opened p d c) where
+  few : p .devices ≤ 256
+  few = opened-ascending o .0
 
-  pub wide-length : length (stateOf p .devices) ≡ p .devices
-  unfolding stateOf
-  wide-length = length-deviceRows (p .ids) (p .capacities) 0 (p .devices)
-
-  size-ids : length d ≡ 256
-  size-ids = ap length (wd .same) ∙ wd .size
-
-  size-capacities : length c ≡ 256
-  size-capacities = ap length (wc .same) ∙ wc .size
-
-  clear-ids : Zeros d (p .devices)
-  clear-ids = subst (λ (xs : List ℕ). Zeros xs (p .devices)) (sym (wd .same)) (valid-cleared p v .noIds)
-
-  clear-capacities : Zeros c (p .devices)
-  clear-capacities = subst (λ (xs : List ℕ). Zeros xs (p .devices)) (sym (wc .same)) (valid-cleared p v .noCapacities)
-
-  pub next-insert : (id capacity row : ℕ) (d' c' : List ℕ) → 1 ≤ id → id ≤ 65535 → 1 ≤ capacity → capacity ≤ maxCapacity → p .devices < 256
+  pub next-insert : {id capacity row : ℕ} {d' c' : List ℕ} → outside maxId id || outside maxCapacity capacity ≡ false → p .devices < 256
       → Position d (p .devices) id row → present id (stateOf p .devices) ≡ false → Inserted d row id d' → Inserted c row capacity c'
       → Next (insert id capacity (stateOf p .devices)) d' c' (p .devices + 1)
-  next-insert id capacity row d' c' i1 i2 c1 c2 few q absent xd xc = record {
+  next-insert {id} {capacity} {row} {d'} {c'} i room q absent xd xc = record {
     some = omega arith;
     most = omega arith;
-    rows = made ∙ ap (insert id capacity) wide-rows;
+    rows = made ∙ ap (insert id capacity) (opened-rows o);
     rising = subst (Rising 0) (sym made)
-        (insert-rising 0 id capacity (deviceRows d c 0 (p .devices)) wide-rising (record { above = i1; known = i2; some = c1; most = c2 }) none);
+        (insert-rising 0 id capacity (deviceRows d c 0 (p .devices)) (opened-rising o)
+        (record { above = limits .0 .0; known = limits .0 .1; some = limits .1 .0; most = limits .1 .1 }) none);
     idsSize = xd .size;
     capacitiesSize = xc .size;
-    noIds = zeros-inserted (p .devices) row id d d' (q .most) size-ids clear-ids xd;
-    noCapacities = zeros-inserted (p .devices) row capacity c c' (q .most) size-capacities clear-capacities xc;
+    noIds = zeros-inserted (p .devices) row id d d' (q .most) (opened-ids o) (cleared-ids o) xd;
+    noCapacities = zeros-inserted (p .devices) row capacity c c' (q .most) (opened-capacities o) (cleared-capacities o) xc;
   }
     where
+      limits : ((1 ≤ id) × (id ≤ maxId)) × ((1 ≤ capacity) × (capacity ≤ maxCapacity))
+      limits = both-inside id capacity i
+
       away : present id (deviceRows d c 0 (p .devices)) ≡ false
-      away = ap (present id) wide-rows ∙ absent
+      away = ap (present id) (opened-rows o) ∙ absent
 
       made : deviceRows d' c' 0 (p .devices + 1) ≡ insert id capacity (deviceRows d c 0 (p .devices))
-      made = insert-rows q (λ l e. true≢false (sym (position-present d c (p .devices) id row l e) ∙ away)) few xd xc
+      made = insert-rows q (λ l e. true≢false (sym (position-present d c (p .devices) id row l e) ∙ away)) room xd xc
 
       none : count id (ids (deviceRows d c 0 (p .devices))) ≡ 0
       none = omega (arith, ltb-false 0 (count id (ids (deviceRows d c 0 (p .devices)))) (sym (present-count id (deviceRows d c 0 (p .devices))) ∙ away))
 
-  pub next-delete : (id row : ℕ) (d' c' : List ℕ) → 1 < p .devices → row < p .devices → at d row ≡ id → Deleted d row d' → Deleted c row c'
+  pub next-delete : {id row : ℕ} {d' c' : List ℕ} → 1 < p .devices → (row < p .devices) × (at d row ≡ id) → Deleted d row d' → Deleted c row c'
       → Next (delete id (stateOf p .devices)) d' c' (p .devices - 1)
-  next-delete id row d' c' more l e xd xc = record {
+  next-delete {id} {row} {d'} {c'} more l xd xc = record {
     some = omega arith;
-    most = omega (arith, valid-limited p v .few);
-    rows = made ∙ ap (delete id) wide-rows;
-    rising = subst (Rising 0) (sym made) (delete-rising 0 id (deviceRows d c 0 (p .devices)) wide-rising);
+    most = omega (arith, few);
+    rows = made ∙ ap (delete id) (opened-rows o);
+    rising = subst (Rising 0) (sym made) (delete-rising 0 id (deviceRows d c 0 (p .devices)) (opened-rising o));
     idsSize = xd .size;
     capacitiesSize = xc .size;
-    noIds = zeros-deleted (p .devices) row d d' l size-ids clear-ids xd;
-    noCapacities = zeros-deleted (p .devices) row c c' l size-capacities clear-capacities xc;
+    noIds = zeros-deleted (p .devices) row d d' (l .0) (opened-ids o) (cleared-ids o) xd;
+    noCapacities = zeros-deleted (p .devices) row c c' (l .0) (opened-capacities o) (cleared-capacities o) xc;
   }
     where
       made : deviceRows d' c' 0 (p .devices - 1) ≡ delete id (deviceRows d c 0 (p .devices))
-      made = delete-rows l e (ascending-rising d c (p .devices) wide-rising) (valid-limited p v .few) xd xc
+      made = delete-rows (l .0) (l .1) (opened-ascending o .1) few xd xc
 
-  pub next-update : (id row capacity : ℕ) → row < p .devices → at d row ≡ id → 1 ≤ capacity → capacity ≤ maxCapacity
+  pub next-update : {id row : ℕ} (capacity : ℕ) → outside maxId id || outside maxCapacity capacity ≡ false → (row < p .devices) × (at d row ≡ id)
       → Next (update id capacity (stateOf p .devices)) d (set c row capacity) (p .devices)
-  next-update id row capacity l e c1 c2 = record {
-    some = omega arith;
-    most = valid-limited p v .few;
-    rows = made ∙ ap (update id capacity) wide-rows;
-    rising = subst (Rising 0) (sym made) (update-rising 0 id capacity (deviceRows d c 0 (p .devices)) wide-rising c1 c2);
-    idsSize = size-ids;
-    capacitiesSize = length-set c row capacity ∙ size-capacities;
-    noIds = clear-ids;
-    noCapacities = zeros-set (p .devices) row capacity c l clear-capacities;
+  next-update {id} {row} capacity i l = record {
+    some = omega (arith, l .0);
+    most = few;
+    rows = made ∙ ap (update id capacity) (opened-rows o);
+    rising = subst (Rising 0) (sym made) (update-rising 0 id capacity (deviceRows d c 0 (p .devices)) (opened-rising o) (limits .0) (limits .1));
+    idsSize = opened-ids o;
+    capacitiesSize = length-set c row capacity ∙ opened-capacities o;
+    noIds = cleared-ids o;
+    noCapacities = zeros-set (p .devices) row capacity c (l .0) (cleared-capacities o);
   }
     where
+      limits : (1 ≤ capacity) × (capacity ≤ maxCapacity)
+      limits = both-inside id capacity i .1
+
       made : deviceRows d (set c row capacity) 0 (p .devices) ≡ update id capacity (deviceRows d c 0 (p .devices))
       made =
-          update-rows d c capacity l e (ascending-rising d c (p .devices) wide-rising)
-          (omega (arith, size-capacities, valid-limited p v .few))
+          update-rows d c capacity (l .0) (l .1) (opened-ascending o .1)
+          (omega (arith, opened-capacities o, few, l .0))
+
+  pub next-settle : {es : List Device} {d' c' : List ℕ} {n : ℕ} → 1 ≤ p .devices → Next es d' c' n
+      → (ValidPool p × (1 ≤ p .devices) × (1 ≤ n) × (n ≤ 256) × Rising 0 (deviceRows d' c' 0 n))
+      × ((length d' ≡ 256) × (length c' ≡ 256) × Zeros d' n × Zeros c' n)
+  next-settle m x = ((o .valid, m, x .some, x .most, x .rising), (x .idsSize, x .capacitiesSize, x .noIds, x .noCapacities))

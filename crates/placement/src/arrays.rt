@@ -10,16 +10,35 @@ ghost use Rattle.slicing_core.specs.Stages.{Below, Decides};
 ghost use Rattle.placement.specs.Pools.{padded, startsOf, Zeros, Positive, Widened};
 ghost use Rattle.placement.specs.Pools.{ownersOf as Pools·ownersOf};
 
+// Copies the numbers of xs into 64-bit places, as many as they are.
+fn widen16(xs: &[u16], into: &mut [u64])
+    requires { ⌜ length (now into) ≡ length (now xs) ⌝ }
+    ensures { λ r. ⌜ Widened (now (xs .entry)) 65536 (length (now (xs .entry))) (now (into .exit)) ⌝ }
+{
+    let mut i = 0;
+    while i < xs.len() {
+        into[i] = xs[i] as u64;
+        i += 1;
+    }
+}
+
+fn widen32(xs: &[u32], into: &mut [u64])
+    requires { ⌜ length (now into) ≡ length (now xs) ⌝ }
+    ensures { λ r. ⌜ Widened (now (xs .entry)) 4294967296 (length (now (xs .entry))) (now (into .exit)) ⌝ }
+{
+    let mut i = 0;
+    while i < xs.len() {
+        into[i] = xs[i] as u64;
+        i += 1;
+    }
+}
+
 // The numbers, widened.
 pub fn wide_ids(xs: [u16; 256]) -> [u64; 256]
     ensures { λ r. ⌜ Widened xs 65536 256 r ⌝ }
 {
     let mut into = [0u64; 256];
-    let mut i = 0;
-    while i < 256 {
-        into[i] = xs[i] as u64;
-        i += 1;
-    }
+    widen16(&xs, &mut into);
     into
 }
 
@@ -27,11 +46,7 @@ pub fn wide_capacities(xs: [u32; 256]) -> [u64; 256]
     ensures { λ r. ⌜ Widened xs 4294967296 256 r ⌝ }
 {
     let mut into = [0u64; 256];
-    let mut i = 0;
-    while i < 256 {
-        into[i] = xs[i] as u64;
-        i += 1;
-    }
+    widen32(&xs, &mut into);
     into
 }
 
@@ -39,11 +54,7 @@ pub fn wide_starts(xs: [u32; 4096]) -> [u64; 4096]
     ensures { λ r. ⌜ Widened xs 4294967296 4096 r ⌝ }
 {
     let mut into = [0u64; 4096];
-    let mut i = 0;
-    while i < 4096 {
-        into[i] = xs[i] as u64;
-        i += 1;
-    }
+    widen32(&xs, &mut into);
     into
 }
 
@@ -51,11 +62,7 @@ pub fn wide_owners(xs: [u16; 4096]) -> [u64; 4096]
     ensures { λ r. ⌜ Widened xs 65536 4096 r ⌝ }
 {
     let mut into = [0u64; 4096];
-    let mut i = 0;
-    while i < 4096 {
-        into[i] = xs[i] as u64;
-        i += 1;
-    }
+    widen16(&xs, &mut into);
     into
 }
 

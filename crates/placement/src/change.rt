@@ -15,7 +15,7 @@ use slicing_core::devices::insert_row;
 use slicing_core::devices::position;
 use slicing_core::shares::shares;
 ghost use mathlib.Core.Path.{_≡_};
-ghost use mathlib.Core.Bool.{true};
+ghost use mathlib.Core.Bool.{true, false, _||_};
 ghost use mathlib.Core.List.{List, [], _∷_, _++_};
 ghost use Prim.Native.Nat.{ℕ, _*_, _≤_, _<_};
 ghost use lib.ListN.{length, drop};
@@ -24,7 +24,7 @@ ghost use Rattle.slicing.specs.Devices as Devices;
 ghost use Rattle.slicing.specs.Limits as Limits;
 ghost use Rattle.slicing.specs.Runs.{_of_};
 ghost use Rattle.slicing_core.specs.Rows.{at, deviceRows, moveRows};
-ghost use Rattle.slicing_core.specs.Stages.{scratch, Ascending, Position};
+ghost use Rattle.slicing_core.specs.Stages.{scratch, Ascending, Decides, Position};
 ghost use Rattle.placement.specs.Pools.{poolOf, ValidPool};
 ghost use Rattle.placement.specs.Promises.{Fresh, Changed, Shared, changeOf, flat};
 
@@ -125,6 +125,26 @@ fn outside(most: u64, x: u64) -> bool
     most < x
 }
 
+// Whether the pool is valid and the id is within its limits.
+fn admits_id(pool: Pool, id: u64) -> bool
+    ensures { λ r. ⌜ Decides r (ValidPool pool × (Limits.outside Limits.maxId id ≡ false)) ⌝ }
+{
+    if !valid(pool) {
+        return false;
+    }
+    !outside(MAX_ID, id)
+}
+
+// Whether the capacity is within its limits too.
+fn admits(pool: Pool, id: u64, capacity: u64) -> bool
+    ensures { λ r. ⌜ Decides r (ValidPool pool × (Limits.outside Limits.maxId id || Limits.outside Limits.maxCapacity capacity ≡ false)) ⌝ }
+{
+    if !admits_id(pool, id) {
+        return false;
+    }
+    !outside(MAX_CAPACITY, capacity)
+}
+
 // The row of a device, or the row that it would have.
 struct Place {
     row: usize,
@@ -182,13 +202,7 @@ fn first(pool: Pool, id: u64, capacity: u64) -> ChangeAnswer
 pub fn add(pool: Pool, id: u64, capacity: u64, list: &mut [u64]) -> ChangeAnswer
     ensures { λ r. ⌜ Changed pool (now (list .entry)) (Changes.add id capacity) r (now (list .exit)) ⌝ }
 {
-    if !valid(pool) {
-        return refuse(pool, 2);
-    }
-    if outside(MAX_ID, id) {
-        return refuse(pool, 2);
-    }
-    if outside(MAX_CAPACITY, capacity) {
+    if !admits(pool, id, capacity) {
         return refuse(pool, 2);
     }
     let n = pool.devices;
@@ -217,10 +231,7 @@ pub fn add(pool: Pool, id: u64, capacity: u64, list: &mut [u64]) -> ChangeAnswer
 pub fn remove(pool: Pool, id: u64, list: &mut [u64]) -> ChangeAnswer
     ensures { λ r. ⌜ Changed pool (now (list .entry)) (Changes.remove id) r (now (list .exit)) ⌝ }
 {
-    if !valid(pool) {
-        return refuse(pool, 2);
-    }
-    if outside(MAX_ID, id) {
+    if !admits_id(pool, id) {
         return refuse(pool, 2);
     }
     let n = pool.devices;
@@ -245,13 +256,7 @@ pub fn remove(pool: Pool, id: u64, list: &mut [u64]) -> ChangeAnswer
 pub fn resize(pool: Pool, id: u64, capacity: u64, list: &mut [u64]) -> ChangeAnswer
     ensures { λ r. ⌜ Changed pool (now (list .entry)) (Changes.resize id capacity) r (now (list .exit)) ⌝ }
 {
-    if !valid(pool) {
-        return refuse(pool, 2);
-    }
-    if outside(MAX_ID, id) {
-        return refuse(pool, 2);
-    }
-    if outside(MAX_CAPACITY, capacity) {
+    if !admits(pool, id, capacity) {
         return refuse(pool, 2);
     }
     let n = pool.devices;
@@ -284,10 +289,7 @@ pub fn changed(pool: Pool, call: Call, list: &mut [u64]) -> ChangeAnswer
 pub fn share(pool: Pool, id: u64) -> ShareAnswer
     ensures { λ r. ⌜ Shared pool id r ⌝ }
 {
-    if !valid(pool) {
-        return ShareAnswer::Refused(2);
-    }
-    if outside(MAX_ID, id) {
+    if !admits_id(pool, id) {
         return ShareAnswer::Refused(2);
     }
     let n = pool.devices;

@@ -1,6 +1,7 @@
 -- `placement::arrays::narrow_capacities` meets its contract. The loop's invariant: the first `i` numbers are copied.
-use Prim.Native.Nat.{_-_, _<_, _^_}
+use Prim.Native.Nat.{ℕ, _-_, _<_, _^_}
 use native.Mathlib.Omega.{arith}
+use lib.ListN.{length-replicate}
 use Rattle.slicing_core.specs.Rows.{at}
 use Rattle.placement.proofs.Copies.{Copied, copied-none, copied-more, copied-all}
 use Rattle.placement.proofs.arrays.narrow_capacities.Statement.{statement}
@@ -13,7 +14,7 @@ abbrev μ-loop : tie.MeasureT-loop
 μ-loop xs into₀ i₀ into i = 256 - i
 
 loop-holds : tie.Need-loop-holds Inv-loop μ-loop
-loop-holds c = copied-none _ _ 256
+loop-holds c = copied-none _ _ 256 _ (length-replicate {A = ℕ} 256 0)
 
 mul-into : tie.Need-mul-into Inv-loop μ-loop
 mul-into c = omega arith

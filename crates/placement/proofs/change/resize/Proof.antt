@@ -1,27 +1,37 @@
 -- `placement::change::resize` meets its contract: each check is the rules' own, in their order, and the plan is their outcome.
-use mathlib.Core.Path.{_≡_, sym, ap, _∙_}
-use mathlib.Core.Bool.{false}
-use Prim.Native.Nat.{_<_}
+use mathlib.Core.Path.{_≡_, sym, _∙_}
+use mathlib.Core.Bool.{true, false, _||_}
+use mathlib.Core.List.{List}
+use Prim.Native.Nat.{ℕ, _<_}
 use native.Mathlib.Omega.{arith}
 use lib.ListN.{set}
 use borrow.Author.Needs.{needs}
 use borrow.Author.Tests.{not-true, not-false}
-use Rattle.slicing.specs.Changes.{resize, settle}
 use Rattle.slicing.specs.Devices.{present, update}
 use Rattle.slicing.specs.Limits.{maxId, maxCapacity, outside}
-use Rattle.slicing.proofs.Changes.{outside-false}
 use Rattle.slicing_core.specs.Rows.{at}
-use Rattle.slicing_core.proofs.DeviceRows.{ascending-rising}
+use Rattle.placement.specs.declared.Pool.{Pool}
 use Rattle.placement.specs.Pools.{stateOf, ValidPool}
-use Rattle.placement.specs.Promises.{movesIn}
-use Rattle.placement.proofs.Calls.{changed-invalid, changed-refused, changed-planned, count-fits, resize-two-id, resize-two-capacity, resize-five, resize-settle}
-use Rattle.placement.proofs.NextDevices.{Next, wide-rows, wide-rising, next-update}
-use Rattle.placement.proofs.ValidParts.{valid-limited}
+use Rattle.placement.proofs.Calls.{planned-fits, resize-two, resize-five, resize-settle}
+use Rattle.placement.proofs.NextDevices.{Next, next-update, next-settle}
+use Rattle.placement.proofs.OpenedPools.{Opened, opened-ascending, opened-present}
 use Rattle.placement.proofs.change.resize.Statement.{statement}
 use Rattle.placement.proofs.change.resize.Tie as tie
 
-valid-requires : tie.Need-valid-requires
-valid-requires c κs = search needs
+abbrev pool : tie.Else1 → Pool
+pool c = c .before .before .before .args .pool
+
+abbrev id : tie.Else1 → ℕ
+id c = c .before .before .before .args .id
+
+abbrev capacity : tie.Else1 → ℕ
+capacity c = c .before .before .before .args .capacity
+
+abbrev lent : tie.Else1 → List ℕ
+lent c = c .before .before .before .args .list .now
+
+admits-requires : tie.Need-admits-requires
+admits-requires c κs = search needs
 
 refuse-requires : tie.Need-refuse-requires
 refuse-requires c κs = search needs
@@ -29,45 +39,11 @@ refuse-requires c κs = search needs
 returns : tie.Need-returns
 returns c =
     let w = c .before .before in
-    let a = w .before .before .args in
-    changed-invalid (a .pool) (a .list .now) (resize (a .id) (a .capacity)) _ (rw (not-true (w .valid .result) (c .before .if1 .taken)) at (w .valid .ensures)) (c .refuse .ensures)
+    resize-two (rw (not-true (w .admits .result) (c .before .if1 .taken)) at (w .admits .ensures)) (c .refuse .ensures)
 
--- past the first check the pool is valid
-valid-pool : (c : tie.Else1) → ValidPool (c .before .before .before .args .pool)
-valid-pool c = rw (not-false (c .before .valid .result) (c .if1 .left)) at (c .before .valid .ensures)
-
-outside-requires : tie.Need-outside-requires
-outside-requires c κs = search needs
-
-refuse-requires-2 : tie.Need-refuse-requires-2
-refuse-requires-2 c κs = search needs
-
-returns-2 : tie.Need-returns-2
-returns-2 c =
-    let o = c .before .before in
-    let a = o .before .before .before .before .args in
-    changed-refused (a .pool) (a .list .now) (resize (a .id) (a .capacity)) _ 2 (valid-pool (o .before)) (c .refuse2 .ensures)
-    (resize-two-id (stateOf (a .pool)) (movesIn (a .list .now)) (a .id) (a .capacity) (sym (o .outside .ensures) ∙ c .before .if2 .taken))
-
-id-inside : (c : tie.Else2) → outside maxId (c .before .before .before .before .before .args .id) ≡ false
-id-inside c = sym (c .before .outside .ensures) ∙ c .if2 .left
-
-outside-requires-2 : tie.Need-outside-requires-2
-outside-requires-2 c κs = search needs
-
-refuse-requires-3 : tie.Need-refuse-requires-3
-refuse-requires-3 c κs = search needs
-
-returns-3 : tie.Need-returns-3
-returns-3 c =
-    let o = c .before .before in
-    let e = o .before in
-    let a = e .before .before .before .before .before .args in
-    changed-refused (a .pool) (a .list .now) (resize (a .id) (a .capacity)) _ 2 (valid-pool (e .before .before)) (c .refuse3 .ensures)
-    (resize-two-capacity (stateOf (a .pool)) (movesIn (a .list .now)) (a .id) (a .capacity) (id-inside e) (sym (o .outside2 .ensures) ∙ c .before .if3 .taken))
-
-capacity-inside : (c : tie.Else3) → outside maxCapacity (c .before .before .before .before .before .before .before .args .capacity) ≡ false
-capacity-inside c = sym (c .before .outside2 .ensures) ∙ c .if3 .left
+-- past the first check
+admitted : (c : tie.Else1) → ValidPool (pool c) × (outside maxId (id c) || outside maxCapacity (capacity c) ≡ false)
+admitted c = rw (not-false (c .before .admits .result) (c .if1 .left)) at (c .before .admits .ensures)
 
 wide-ids-requires : tie.Need-wide-ids-requires
 wide-ids-requires c κs = search needs
@@ -75,45 +51,38 @@ wide-ids-requires c κs = search needs
 wide-capacities-requires : tie.Need-wide-capacities-requires
 wide-capacities-requires c κs = search needs
 
+abbrev passed : tie.After-find → tie.Else1
+passed c = c .before .before .before .before .before .before
+
+opened : (c : tie.After-wide-capacities)
+    → Opened (pool (c .before .before .before .before)) (c .before .wide-ids .result) (c .wide-capacities .result)
+opened c = record { valid = admitted (c .before .before .before .before) .0; ids = c .before .wide-ids .ensures; capacities = c .wide-capacities .ensures }
+
 find-requires : tie.Need-find-requires
-find-requires c κs =
-    let k = c .before in
-    let e = k .before .before .before .before in
-    let a = e .before .before .before .before .before .before .before .args in
-    let v = valid-pool (e .before .before .before .before) in
-    (valid-limited (a .pool) v .few, ascending-rising (k .before .wide-ids .result) (k .wide-capacities .result) (a .pool .devices) (wide-rising (a .pool) v (k .before .wide-ids .result) (k .wide-capacities .result) (k .before .wide-ids .ensures) (k .wide-capacities .ensures)))
+find-requires c κs = opened-ascending (opened (c .before))
 
 -- whether the device is present, as the rules ask it
-found : (c : tie.After-find) → let a = c .before .before .before .before .before .before .before .before .before .before .before .before .before .args in c .find .result .present ≡ present (a .id) (stateOf (a .pool) .devices)
-found c =
-    let k = c .before .before in
-    let e = k .before .before .before .before in
-    let a = e .before .before .before .before .before .before .before .args in
-    c .find .ensures .1 .0 (k .wide-capacities .result) ∙ ap (present (a .id)) (wide-rows (a .pool) (valid-pool (e .before .before .before .before)) (k .before .wide-ids .result) (k .wide-capacities .result) (k .before .wide-ids .ensures) (k .wide-capacities .ensures))
+found : (c : tie.After-find) → c .find .result .present ≡ present (id (passed c)) (stateOf (pool (passed c)) .devices)
+found c = opened-present (opened (c .before .before)) _ (c .find .ensures .1 .0)
 
-refuse-requires-4 : tie.Need-refuse-requires-4
-refuse-requires-4 c κs = search needs
+refuse-requires-2 : tie.Need-refuse-requires-2
+refuse-requires-2 c κs = search needs
 
-returns-4 : tie.Need-returns-4
-returns-4 c =
+returns-2 : tie.Need-returns-2
+returns-2 c =
     let f = c .before .before .before in
-    let e = f .before .before .before .before .before .before in
-    let a = e .before .before .before .before .before .before .before .args in
-    changed-refused (a .pool) (a .list .now) (resize (a .id) (a .capacity)) _ 5 (valid-pool (e .before .before .before .before)) (c .refuse4 .ensures)
-    (resize-five (stateOf (a .pool)) (movesIn (a .list .now)) (a .id) (a .capacity) (id-inside (e .before .before)) (capacity-inside e)
-    (sym (found f) ∙ not-true (f .find .result .present) (c .before .if4 .taken)))
+    resize-five (admitted (passed f)) (c .refuse2 .ensures) (sym (found f) ∙ not-true (f .find .result .present) (c .before .if2 .taken))
 
--- past that check it is, in its row
-row-found : (c : tie.Else4) → let f = c .before .before in let a = f .before .before .before .before .before .before .before .before .before .before .before .before .before .args in
-    (f .find .result .row < a .pool .devices) × (at (f .before .before .before .wide-ids .result) (f .find .result .row) ≡ a .id)
-row-found c =
-    let f = c .before .before in
-    f .find .ensures .1 .1 (not-false (f .find .result .present) (c .if4 .left))
+-- past that check the device is in its row
+there : (c : tie.Else2) → c .before .before .find .result .present ≡ true
+there c = not-false (c .before .before .find .result .present) (c .if2 .left)
 
-row-below : (c : tie.Else4) → c .before .before .find .result .row < 256
-row-below c =
-    let e = c .before .before .before .before .before .before .before .before in
-    omega (arith, row-found c .0, valid-limited (e .before .before .before .before .before .before .before .args .pool) (valid-pool (e .before .before .before .before)) .few)
+row-found : (c : tie.Else2) → let f = c .before .before in
+    (f .find .result .row < pool (passed f) .devices) × (at (f .before .before .before .wide-ids .result) (f .find .result .row) ≡ id (passed f))
+row-found c = c .before .before .find .ensures .1 .1 (there c)
+
+row-below : (c : tie.Else2) → c .before .before .find .result .row < 256
+row-below c = omega (arith, row-found c .0, opened-ascending (opened (c .before .before .before .before)) .0)
 
 mul-capacities : tie.Need-mul-capacities
 mul-capacities c = omega (arith, row-below c)
@@ -121,74 +90,50 @@ mul-capacities c = omega (arith, row-below c)
 array-write-capacities : tie.Need-array-write-capacities
 array-write-capacities c = row-below c
 
+abbrev held : tie.After-capacities → tie.Else2
+held c = c .before .before
+
 -- the devices afterwards
 next : (c : tie.After-capacities)
-    → let x = c .before .before in
-    let f = x .before .before in
-    let a = f .before .before .before .before .before .before .before .before .before .before .before .before .before .args in
-    Next (update (a .id) (a .capacity) (stateOf (a .pool) .devices)) (f .before .before .before .wide-ids .result)
-    (set (f .before .before .wide-capacities .result) (f .find .result .row) (a .capacity)) (a .pool .devices)
+    → let f = held c .before .before in
+    let e = passed f in
+    Next (update (id e) (capacity e) (stateOf (pool e) .devices)) (f .before .before .before .wide-ids .result)
+    (set (f .before .before .wide-capacities .result) (f .find .result .row) (capacity e)) (pool e .devices)
 next c =
-    let x = c .before .before in
-    let f = x .before .before in
-    let k = f .before .before in
-    let e = k .before .before .before .before in
-    let a = e .before .before .before .before .before .before .before .args in
-    let capacity = outside-false maxCapacity (a .capacity) (capacity-inside e) in
-    next-update (a .pool) (valid-pool (e .before .before .before .before)) (k .before .wide-ids .result) (k .wide-capacities .result) (k .before .wide-ids .ensures) (k .wide-capacities .ensures)
-    (a .id) (f .find .result .row) (a .capacity) (row-found x .0) (row-found x .1) (capacity .0) (capacity .1)
+    let f = held c .before .before in
+    next-update (opened (f .before .before)) (capacity (passed f)) (admitted (passed f) .1) (row-found (held c))
 
 settle-requires : tie.Need-settle-requires
-settle-requires c κs =
-    let x = c .before .before in
-    let e = x .before .before .before .before .before .before .before .before in
-    let n = next c in (
-      (valid-pool (e .before .before .before .before), omega (arith, row-found x .0), n .some, n .most, n .rising),
-      (n .idsSize, n .capacitiesSize, n .noIds, n .noCapacities),
-    )
+settle-requires c κs = next-settle (opened (held c .before .before .before .before)) (omega (arith, row-found (held c) .0)) (next c)
 
 carried-requires : tie.Need-carried-requires
-carried-requires c κs =
-    let a = c .before .before .before .before .before .before .before .before .before .before .before .before .before .before .before .before .before .before .before .args in
-    (c .before .settle .ensures .room, count-fits (a .pool) _ (a .list .now) (c .before .settle .result) (c .before .settle .ensures))
+carried-requires c κs = planned-fits (lent (passed (held (c .before .before) .before .before))) (c .before .settle .ensures)
 
 same-length : tie.Need-same-length
 same-length c = search needs
 
-returns-5 : tie.Need-returns-5
-returns-5 c =
+returns-3 : tie.Need-returns-3
+returns-3 c =
     let d = c .before .before .before .before .before in
-    let x = d .before .before in
-    let f = x .before .before in
-    let e = f .before .before .before .before .before .before in
-    let a = e .before .before .before .before .before .before .before .args in
-    changed-planned (a .pool) (a .list .now) (resize (a .id) (a .capacity)) _ _ _ (c .before .before .before .before .settle .result) (valid-pool (e .before .before .before .before)) (c .before .before .before .before .settle .ensures)
-    (c .before .before .carried .ensures .0) (c .before .before .carried .ensures .1)
-    (resize-settle (stateOf (a .pool)) (movesIn (a .list .now)) (a .id) (a .capacity) (id-inside (e .before .before)) (capacity-inside e)
-    (sym (found f) ∙ not-false (f .find .result .present) (x .if4 .left))
-    ∙ ap (settle (stateOf (a .pool)) (movesIn (a .list .now))) (sym (next d .rows)))
+    let f = held d .before .before in
+    resize-settle (admitted (passed f)) (c .before .before .before .before .settle .ensures) (c .before .before .carried .ensures)
+    (sym (found f) ∙ there (held d)) (next d)
 
 pub resize-spec : {M : Type 1} → statement M
 resize-spec =
     tie.close
     (tie.spec
-    valid-requires
+    admits-requires
     refuse-requires
     returns
-    outside-requires
-    refuse-requires-2
-    returns-2
-    outside-requires-2
-    refuse-requires-3
-    returns-3
     wide-ids-requires
     wide-capacities-requires
     find-requires
-    refuse-requires-4
-    returns-4
+    refuse-requires-2
+    returns-2
     mul-capacities
     array-write-capacities
     settle-requires
     carried-requires
     same-length
-    returns-5)
+    returns-3)

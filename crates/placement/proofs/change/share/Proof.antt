@@ -1,60 +1,36 @@
 -- `placement::change::share` meets its contract: each return by the answers that led there.
 use mathlib.Core.Path.{_≡_, sym, _∙_}
 use mathlib.Core.Bool.{false}
-use Prim.Native.Nat.{_<_}
+use Prim.Native.Nat.{ℕ, _<_}
 use native.Mathlib.Omega.{arith}
 use borrow.Author.Needs.{needs}
 use borrow.Author.Tests.{not-true, not-false}
-use Rattle.slicing.specs.Devices.{Rising}
 use Rattle.slicing.specs.Limits.{maxId, outside}
-use Rattle.slicing_core.specs.Rows.{at, deviceRows}
-use Rattle.slicing_core.proofs.DeviceRows.{ascending-rising}
+use Rattle.slicing_core.specs.Rows.{at}
 use Rattle.placement.specs.declared.Pool.{Pool}
-use Rattle.placement.specs.Pools.{ValidPool, Limited}
+use Rattle.placement.specs.Pools.{ValidPool}
 use Rattle.placement.proofs.HeldRows.{below-capacities, some-capacities}
-use Rattle.placement.proofs.ShareAnswers.{shared-invalid, shared-outside, shared-absent, shared-present}
+use Rattle.placement.proofs.OpenedPools.{Opened, opened-rising, opened-ascending, opened-present}
+use Rattle.placement.proofs.ShareAnswers.{shared-two, shared-five, shared-present}
 use Rattle.placement.proofs.ValidParts.{valid-limited}
-use Rattle.placement.proofs.WidePools.{rising-wide}
 use Rattle.placement.proofs.change.share.Statement.{statement}
 use Rattle.placement.proofs.change.share.Tie as tie
 
-valid-pool : (c : tie.Else1) → ValidPool (c .before .before .args .pool)
-valid-pool c = rw (not-false (c .before .valid .result) (c .if1 .left)) at (c .before .valid .ensures)
+abbrev pool : tie.Else1 → Pool
+pool c = c .before .before .args .pool
 
-inside : (c : tie.Else2) → outside maxId (c .before .before .before .before .args .id) ≡ false
-inside c = sym (c .before .outside .ensures) ∙ c .if2 .left
+abbrev id : tie.Else1 → ℕ
+id c = c .before .before .args .id
 
-abbrev known : tie.After-wide-capacities → tie.Else2
-known c = c .before .before .before .before
-
-abbrev pool : tie.After-wide-capacities → Pool
-pool c = known c .before .before .before .before .args .pool
-
-limits : (c : tie.After-wide-capacities) → Limited (pool c)
-limits c = valid-limited (pool c) (valid-pool (known c .before .before))
-
-rising : (c : tie.After-wide-capacities)
-    → Rising 0 (deviceRows (c .before .wide-ids .result) (c .wide-capacities .result) 0 (pool c .devices))
-rising c = rising-wide (valid-pool (known c .before .before)) (c .before .wide-ids .ensures .same) (c .wide-capacities .ensures .same)
-
-abbrev wide : tie.After-struct-known → tie.After-wide-capacities
-wide c = c .before .before .before
-
-found : (c : tie.Else3) → let w = wide (c .before) in let row = c .before .before .find .result .row in
-    (row < pool w .devices) × (at (w .before .wide-ids .result) row ≡ known w .before .before .before .before .args .id)
-found c = c .before .before .find .ensures .1 .1 (not-false (c .before .before .find .result .present) (c .if3 .left))
-
-valid-requires : tie.Need-valid-requires
-valid-requires c κs = search needs
+admits-id-requires : tie.Need-admits-id-requires
+admits-id-requires c κs = search needs
 
 returns : tie.Need-returns
-returns c = shared-invalid _ _ (rw (not-true (c .before .valid .result) (c .if1 .taken)) at (c .before .valid .ensures))
+returns c = shared-two (rw (not-true (c .before .admits-id .result) (c .if1 .taken)) at (c .before .admits-id .ensures))
 
-outside-requires : tie.Need-outside-requires
-outside-requires c κs = search needs
-
-returns-2 : tie.Need-returns-2
-returns-2 c = shared-outside _ _ (sym (c .before .outside .ensures) ∙ c .if2 .taken)
+-- past the first check
+admitted : (c : tie.Else1) → ValidPool (pool c) × (outside maxId (id c) ≡ false)
+admitted c = rw (not-false (c .before .admits-id .result) (c .if1 .left)) at (c .before .admits-id .ensures)
 
 wide-ids-requires : tie.Need-wide-ids-requires
 wide-ids-requires c κs = search needs
@@ -62,32 +38,39 @@ wide-ids-requires c κs = search needs
 wide-capacities-requires : tie.Need-wide-capacities-requires
 wide-capacities-requires c κs = search needs
 
-find-requires : tie.Need-find-requires
-find-requires c κs =
-    let w = c .before in (
-      limits w .few,
-      ascending-rising (w .before .wide-ids .result) (w .wide-capacities .result) (pool w .devices) (rising w),
-    )
+abbrev passed : tie.After-find → tie.Else1
+passed c = c .before .before .before .before .before .before
 
-returns-3 : tie.Need-returns-3
-returns-3 c =
-    let w = wide (c .before) in
-    let find = c .before .before .find in
-    shared-absent _ _ (valid-pool (known w .before .before)) (w .before .wide-ids .ensures .same) (w .wide-capacities .ensures .same)
-    (inside (known w)) (sym (find .ensures .1 .0 (w .wide-capacities .result)) ∙ not-true (find .result .present) (c .if3 .taken))
+opened : (c : tie.After-wide-capacities)
+    → Opened (pool (c .before .before .before .before)) (c .before .wide-ids .result) (c .wide-capacities .result)
+opened c = record { valid = admitted (c .before .before .before .before) .0; ids = c .before .wide-ids .ensures; capacities = c .wide-capacities .ensures }
+
+find-requires : tie.Need-find-requires
+find-requires c κs = opened-ascending (opened (c .before))
+
+returns-2 : tie.Need-returns-2
+returns-2 c =
+    let f = c .before .before in
+    shared-five (admitted (passed f))
+    (sym (opened-present (opened (f .before .before)) (id (passed f)) (f .find .ensures .1 .0)) ∙ not-true (f .find .result .present) (c .if2 .taken))
+
+-- past that check the device is in its row
+row-found : (c : tie.Else2) → let f = c .before .before in
+    (f .find .result .row < pool (passed f) .devices) × (at (f .before .before .before .wide-ids .result) (f .find .result .row) ≡ id (passed f))
+row-found c = c .before .before .find .ensures .1 .1 (not-false (c .before .before .find .result .present) (c .if2 .left))
 
 shares-requires : tie.Need-shares-requires
 shares-requires c κs =
-    let here = c .before .before in
-    let w = wide (here .before) in
-    let ids = w .before .wide-ids .result in
-    let capacities = w .wide-capacities .result in (
-      (limits w .few, limits w .most, below-capacities ids capacities (pool w .devices) (rising w)),
-      some-capacities ids capacities (pool w .devices) (rising w) (omega (arith, found here .0)),
+    let x = c .before .before in
+    let k = x .before .before .before .before in
+    let p = pool (passed (x .before .before)) in
+    let limits = valid-limited p (opened k .valid) in (
+      (limits .few, limits .most, below-capacities (k .before .wide-ids .result) (k .wide-capacities .result) (p .devices) (opened-rising (opened k))),
+      some-capacities (k .before .wide-ids .result) (k .wide-capacities .result) (p .devices) (opened-rising (opened k)) (omega (arith, row-found x .0)),
     )
 
-row-below : (c : tie.Else3) → c .before .before .find .result .row < 256
-row-below c = omega (arith, found c .0, limits (wide (c .before)) .few)
+row-below : (c : tie.Else2) → c .before .before .find .result .row < 256
+row-below c = omega (arith, row-found c .0, opened-ascending (opened (c .before .before .before .before)) .0)
 
 mul-due : tie.Need-mul-due
 mul-due c = omega (arith, row-below (c .before .before .before))
@@ -95,26 +78,23 @@ mul-due c = omega (arith, row-below (c .before .before .before))
 array-read-due : tie.Need-array-read-due
 array-read-due c = row-below (c .before .before .before)
 
-returns-4 : tie.Need-returns-4
-returns-4 c =
-    let here = c .before .before .before in
-    let w = wide (here .before) in
-    shared-present _ _ (valid-pool (known w .before .before)) (w .before .wide-ids .ensures .same) (w .wide-capacities .ensures .same)
-    (inside (known w)) (c .shares .result) (here .before .before .find .result .row) (found here .0) (found here .1) (c .shares .ensures .0)
+returns-3 : tie.Need-returns-3
+returns-3 c =
+    let x = c .before .before .before in
+    let f = x .before .before in
+    shared-present (admitted (passed f)) (c .shares .result) (f .find .result .row) (opened (f .before .before)) (row-found x) (c .shares .ensures .0)
 
 pub share-spec : {M : Type 1} → statement M
 share-spec =
     tie.close
     (tie.spec
-    valid-requires
+    admits-id-requires
     returns
-    outside-requires
-    returns-2
     wide-ids-requires
     wide-capacities-requires
     find-requires
-    returns-3
+    returns-2
     shares-requires
     mul-due
     array-read-due
-    returns-4)
+    returns-3)
