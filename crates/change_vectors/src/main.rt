@@ -14,7 +14,14 @@
 // A pool is two lines: the range, the limit and n, then place, id and capacity of each device; q, then
 // place, start and owner of each interval. A place whose two numbers are 0 is left out, and an unused
 // one that is not 0 is there.
-use libc::STDOUT_FILENO;
+use number_text::Input;
+use number_text::LONGEST;
+use number_text::end_line;
+use number_text::first;
+use number_text::pair;
+use number_text::spaced;
+use number_text::wide16;
+use number_text::wide32;
 use placement::ChangeAnswer;
 use placement::Pool;
 use placement::ShareAnswer;
@@ -24,42 +31,33 @@ ghost use lib.ListN.{length};
 // What the list holds before a call.
 const UNWRITTEN: u64 = 7;
 
-fn wide16(x: u16) -> u64 {
-    x as u64
-}
-
-fn wide32(x: u32) -> u64 {
-    x as u64
-}
-
-// Prints a place, unless both its numbers are 0.
-fn row(place: usize, a: u64, b: u64) {
-    if a == 0 {
-        if b == 0 {
+// Prints a place with a device's id and another number, unless both are 0.
+fn row(place: usize, id: u64, value: u64, id_first: bool) {
+    if id == 0 {
+        if value == 0 {
             return;
         }
     }
-    number_text::spaced(place as u64);
-    number_text::spaced(a);
-    number_text::spaced(b);
+    spaced(place as u64);
+    if id_first {
+        spaced(id);
+        spaced(value);
+        return;
+    }
+    spaced(value);
+    spaced(id);
 }
 
-fn print_devices(ids: &[u16; 256], capacities: &[u32; 256]) {
+// The rest of a line: the n rows of the devices, or of the intervals, which have the owner's id last.
+fn print_rows(ids: &[u16], values: &[u32], n: usize, id_first: bool)
+    requires { ⌜ (length (now ids) ≡ n) × (length (now values) ≡ n) ⌝ }
+{
     let mut i = 0;
-    while i < 256 {
-        row(i, wide16(ids[i]), wide32(capacities[i]));
+    while i < n {
+        row(i, wide16(ids[i]), wide32(values[i]), id_first);
         i += 1;
     }
-    number_text::end_line();
-}
-
-fn print_intervals(starts: &[u32; 4096], owners: &[u16; 4096]) {
-    let mut i = 0;
-    while i < 4096 {
-        row(i, wide32(starts[i]), wide16(owners[i]));
-        i += 1;
-    }
-    number_text::end_line();
+    end_line();
 }
 
 fn print_pool(pool: Pool) {
@@ -67,30 +65,12 @@ fn print_pool(pool: Pool) {
     let capacities = pool.capacities;
     let starts = pool.starts;
     let owners = pool.owners;
-    io::print_decimal(STDOUT_FILENO, pool.range);
-    number_text::spaced(wide32(pool.limit));
-    number_text::spaced(pool.devices as u64);
-    print_devices(&ids, &capacities);
-    io::print_decimal(STDOUT_FILENO, pool.intervals as u64);
-    print_intervals(&starts, &owners);
-}
-
-// The first n numbers.
-fn print_numbers(list: &[u64], n: usize) {
-    let mut i = 0;
-    while i < n {
-        if i >= list.len() {
-            return;
-        }
-        number_text::spaced(list[i]);
-        i += 1;
-    }
-}
-
-fn unwritten_list() -> [u64; 16384]
-    ensures { λ r. ⌜ 16384 ≡ length r ⌝ }
-{
-    [UNWRITTEN; 16384]
+    first(pool.range);
+    spaced(wide32(pool.limit));
+    spaced(pool.devices as u64);
+    print_rows(&ids, &capacities, 256, true);
+    first(pool.intervals as u64);
+    print_rows(&owners, &starts, 4096, false);
 }
 
 // How many of the numbers from place n on are as before the call.
@@ -109,8 +89,8 @@ fn unwritten(list: &[u64], n: usize) -> usize {
 fn fresh_case(range: u64, limit: u64) -> Pool {
     let answer = placement::fresh(range, limit);
     let pool = answer.pool;
-    io::print_decimal(STDOUT_FILENO, wide32(answer.refusal));
-    number_text::end_line();
+    first(wide32(answer.refusal));
+    end_line();
     print_pool(pool);
     pool
 }
@@ -130,45 +110,42 @@ fn print_list(list: &[u64], count: usize) {
     if count > 4096 {
         return;
     }
-    print_numbers(list, 4 * count);
-    number_text::spaced(unwritten(list, 4 * count) as u64);
+    number_text::spaced_list(list, 4 * count);
+    spaced(unwritten(list, 4 * count) as u64);
 }
 
 // Runs a change with a list that holds UNWRITTEN.
 fn change_within(pool: Pool, numbers: &[u64; 16384], list: &mut [u64]) -> Pool {
     let answer = changed(pool, numbers[0], numbers[1], numbers[2], &mut *list);
     let next = answer.pool;
-    io::print_decimal(STDOUT_FILENO, wide32(answer.refusal));
-    number_text::spaced(answer.moved);
-    number_text::spaced(answer.count as u64);
+    first(wide32(answer.refusal));
+    spaced(answer.moved);
+    spaced(answer.count as u64);
     if numbers[4] == 1 {
         print_list(list, answer.count);
-        number_text::end_line();
+        end_line();
         print_pool(next);
         return next;
     }
-    number_text::end_line();
+    end_line();
     next
 }
 
 fn change_case(pool: Pool, numbers: &[u64; 16384]) -> Pool {
-    let mut list = unwritten_list();
-    let n = 4 * pool_text::least(numbers[3], 4096);
+    let mut list = [UNWRITTEN; 16384];
+    let n = number_text::within_numbers(4 * number_text::least(numbers[3], 4096), &list);
     change_within(pool, numbers, &mut list[..n])
 }
 
 fn share_case(pool: Pool, id: u64) {
     match placement::share(pool, id) {
         ShareAnswer::Share(points) => {
-            io::print_decimal(STDOUT_FILENO, 0);
-            number_text::spaced(points);
+            pair(0, points);
         }
         ShareAnswer::Refused(refusal) => {
-            io::print_decimal(STDOUT_FILENO, wide32(refusal));
-            number_text::spaced(0);
+            pair(wide32(refusal), 0);
         }
     }
-    number_text::end_line();
 }
 
 // Runs a line, and answers the pool afterwards.
@@ -193,14 +170,14 @@ fn run(pool: Pool, numbers: &[u64; 16384]) -> Pool {
 
 // A line without numbers ends the program.
 fn main() {
-    let first = placement::fresh(1, 1);
-    let mut pool = first.pool;
-    let mut piece = [0u8; 65536];
+    let made = placement::fresh(1, 1);
+    let mut pool = made.pool;
+    let mut piece = [0u8; LONGEST];
     let mut numbers = [0u64; 16384];
-    let mut input = number_text::start();
+    let mut input = Input::new();
     let mut left: u64 = 1000000;
     while left > 0 {
-        input = number_text::read_line(input, &mut piece, &mut numbers);
+        input = number_text::read_numbers(input, &mut piece, &mut numbers);
         if input.count == 0 {
             return;
         }

@@ -18,8 +18,6 @@
 // number above, since no change has more moves. LOOKUPS and TRIES are at most 4,294,967,295, SIZE at most
 // 32,768, and a line at most 65,536 bytes without its end. Any other line is answered by `bad line`. The
 // last line may lack its end.
-use crate::input::Input;
-use crate::input::LONGEST;
 use crate::words::MOST;
 use crate::words::Parsed;
 use crate::words::is;
@@ -27,17 +25,19 @@ use crate::words::number;
 use crate::words::word;
 use libc::STDOUT_FILENO;
 use lookups::Counters;
+use number_text::Input;
+use number_text::LONGEST;
+use number_text::within;
 use placement::ChangeAnswer;
 use placement::Pool;
 ghost use Prim.Native.Nat.{_≤_};
 ghost use lib.ListN.{length};
 
-mod input;
 mod printing;
 mod words;
 
 // The most places that are lent, and their numbers.
-const PLACES: u64 = 8448;
+pub const PLACES: usize = 8448;
 
 pub const NUMBERS: usize = 33792;
 
@@ -56,23 +56,13 @@ fn changed(pool: Pool, change: Change, list: &mut [u64]) -> ChangeAnswer {
     }
 }
 
-// How many numbers a list of so many places has, at most NUMBERS.
-fn lent(places: u64) -> usize
-    ensures { λ r. ⌜ r ≤ 33792 ⌝ }
-{
-    if places >= PLACES {
-        return NUMBERS;
-    }
-    4 * places as usize
-}
-
 // In what follows, false is answered for a line that is none, and then nothing is printed.
 fn change_line(pool: Pool, change: Change, places: &[u8]) -> bool {
     let Parsed::Number(most) = number(places) else {
         return false;
     };
     let mut list = [0u64; NUMBERS];
-    let n = lent(most);
+    let n = number_text::within_numbers(4 * number_text::least(most, PLACES), &list);
     let answer = changed(pool, change, &mut list[..n]);
     printing::change(answer, &list);
     true
@@ -145,7 +135,7 @@ fn write_call(pool: Pool, buffer: &mut [u8])
 {
     printing::written(images::write(pool, &mut *buffer));
     printing::bytes(buffer);
-    printing::end_line();
+    number_text::end_line();
 }
 
 fn write_line(pool: Pool, line: &[u8]) -> bool {
@@ -155,8 +145,8 @@ fn write_line(pool: Pool, line: &[u8]) -> bool {
     if size > MOST as u64 {
         return false;
     }
-    let n = size as usize;
     let mut buffer = [170u8; MOST];
+    let n = within(size as usize, &buffer);
     write_call(pool, &mut buffer[..n]);
     true
 }
@@ -222,10 +212,11 @@ fn answered(line: &[u8]) -> bool {
         return point_line(line);
     }
     let mut bytes = [0u8; MOST];
-    let n = words::bytes(word(line, 1), &mut bytes);
-    if n > MOST {
+    let size = words::bytes(word(line, 1), &mut bytes);
+    if size > MOST {
         return false;
     }
+    let n = within(size, &bytes);
     bytes_line(line, &bytes[..n])
 }
 
@@ -246,11 +237,11 @@ fn main() {
     let mut input = Input::new();
     let mut left: u64 = u64::MAX;
     while left > 0 {
-        input = input::read_line(input, &mut piece, &mut line);
-        if input::finished(input) {
+        input = number_text::read_line(input, &mut piece, &mut line);
+        if number_text::finished(input) {
             return;
         }
-        let n = input.size;
+        let n = within(input.count, &line);
         answer(&line[..n], input.cut);
         left -= 1;
     }

@@ -1,5 +1,6 @@
 // The printed answers.
 use crate::NUMBERS;
+use crate::PLACES;
 use crate::words::MOST;
 use history::CapacityAnswer;
 use images::WriteAnswer;
@@ -7,6 +8,15 @@ use libc::STDOUT_FILENO;
 use lookups::CopiesAnswer;
 use lookups::OwnerAnswer;
 use lookups::PointAnswer;
+use number_text::end_line;
+use number_text::first;
+use number_text::least;
+use number_text::pair;
+use number_text::space;
+use number_text::spaced;
+use number_text::spaced_list;
+use number_text::wide32;
+use number_text::within;
 use placement::ChangeAnswer;
 use placement::Pool;
 use placement::PoolAnswer;
@@ -16,35 +26,6 @@ ghost use lib.ListN.{length};
 
 // The digits of MOST bytes.
 const DIGITS: usize = 65536;
-
-fn wide16(x: u16) -> u64 {
-    x as u64
-}
-
-fn wide32(x: u32) -> u64 {
-    x as u64
-}
-
-fn space() {
-    io::write_all(STDOUT_FILENO, b" ");
-}
-
-// A further number of a line.
-fn spaced(n: u64) {
-    space();
-    io::print_decimal(STDOUT_FILENO, n);
-}
-
-pub fn end_line() {
-    io::write_all(STDOUT_FILENO, b"\n");
-}
-
-// A line of two numbers.
-fn pair(a: u64, b: u64) {
-    io::print_decimal(STDOUT_FILENO, a);
-    spaced(b);
-    end_line();
-}
 
 fn glyph(digit: u8) -> u8
     requires { ⌜ digit < 16 ⌝ }
@@ -86,38 +67,29 @@ pub fn bytes(bytes: &[u8])
     }
     let mut text = [0u8; DIGITS];
     spell(bytes, &mut text);
-    let n = 2 * bytes.len();
+    let n = within(2 * bytes.len(), &text);
     io::write_all(STDOUT_FILENO, &text[..n]);
 }
 
 // The image of a pool. `-` for one that no image gives: no line gives such a pool.
 fn pool(pool: Pool) {
     let mut image = [0u8; MOST];
-    let mut n = 0;
+    let mut size = 0;
     match images::write(pool, &mut image) {
-        WriteAnswer::Written(size) => {
-            n = size;
+        WriteAnswer::Written(written) => {
+            size = written;
         }
         WriteAnswer::Refused(refusal) => {}
     }
-    if n <= MOST {
-        bytes(&image[..n]);
-    }
-}
-
-fn words(words: &[u32; 5]) {
-    let mut i = 0;
-    while i < 5 {
-        io::print_hex(STDOUT_FILENO, wide32(words[i]), 8);
-        i += 1;
-    }
+    let n = within(size, &image);
+    bytes(&image[..n]);
 }
 
 pub fn digest(answer: DigestAnswer) {
     let list = answer.words;
-    io::print_decimal(STDOUT_FILENO, wide32(answer.refusal));
+    first(wide32(answer.refusal));
     space();
-    words(&list);
+    number_text::hexadecimal(&list);
     end_line();
 }
 
@@ -154,51 +126,31 @@ pub fn owner(answer: OwnerAnswer) {
     }
 }
 
-fn owners(owners: &[u16; 8]) {
-    let mut i = 0;
-    while i < 8 {
-        spaced(wide16(owners[i]));
-        i += 1;
-    }
-}
-
 pub fn copies(answer: CopiesAnswer) {
     let list = answer.owners;
     let counters = answer.counters;
-    io::print_decimal(STDOUT_FILENO, wide32(answer.refusal));
-    owners(&list);
+    first(wide32(answer.refusal));
+    number_text::spaced_owners(&list);
     spaced(wide32(answer.probes));
     spaced(wide32(counters.lookups));
     spaced(wide32(counters.probes));
     end_line();
 }
 
-// The first n moves of a list, four numbers each.
-fn moves(list: &[u64; NUMBERS], n: usize) {
-    let mut i = 0;
-    while i < NUMBERS {
-        if i / 4 >= n {
-            return;
-        }
-        spaced(list[i]);
-        i += 1;
-    }
-}
-
 pub fn change(answer: ChangeAnswer, list: &[u64; NUMBERS]) {
     let after = answer.pool;
-    io::print_decimal(STDOUT_FILENO, wide32(answer.refusal));
+    first(wide32(answer.refusal));
     spaced(answer.moved);
     spaced(answer.count as u64);
     space();
     pool(after);
-    moves(list, answer.count);
+    spaced_list(list, 4 * least(answer.count as u64, PLACES));
     end_line();
 }
 
 pub fn read(answer: PoolAnswer) {
     let made = answer.pool;
-    io::print_decimal(STDOUT_FILENO, wide32(answer.refusal));
+    first(wide32(answer.refusal));
     space();
     pool(made);
     end_line();
@@ -208,11 +160,11 @@ pub fn read(answer: PoolAnswer) {
 pub fn written(answer: WriteAnswer) {
     match answer {
         WriteAnswer::Written(n) => {
-            io::print_decimal(STDOUT_FILENO, 0);
+            first(0);
             spaced(n as u64);
         }
         WriteAnswer::Refused(refusal) => {
-            io::print_decimal(STDOUT_FILENO, wide32(refusal));
+            first(wide32(refusal));
             spaced(0);
         }
     }

@@ -11,33 +11,12 @@ pub enum Parsed {
     Bad,
 }
 
-fn same(a: &[u8], b: &[u8]) -> bool {
-    if a.len() != b.len() {
-        return false;
-    }
-    let mut i = 0;
-    while i < a.len() {
-        if a[i] != b[i] {
-            return false;
-        }
-        i += 1;
-    }
-    true
-}
-
 // The place of the first space from a place on, the length where there is none.
 fn space(line: &[u8], from: usize) -> usize
     requires { ⌜ from ≤ length (now line) ⌝ }
     ensures { λ r. ⌜ (from ≤ r) × (r ≤ length (now (line .entry))) ⌝ }
 {
-    let mut i = from;
-    while i < line.len() {
-        if line[i] == b' ' {
-            return i;
-        }
-        i += 1;
-    }
-    i
+    bytes::scan::find(line, from, line.len(), b' ')
 }
 
 // The place behind the next space, the length where there is none.
@@ -84,7 +63,7 @@ fn arguments(line: &[u8]) -> usize {
 
 // Whether a line has this first word and so many behind it.
 pub fn is(line: &[u8], name: &[u8], n: usize) -> bool {
-    if same(word(line, 0), name) {
+    if check::same(word(line, 0), name) {
         return arguments(line) == n;
     }
     false
@@ -179,7 +158,7 @@ fn decoded(word: &[u8], n: usize, bytes: &mut [u8]) -> bool
 pub fn bytes(word: &[u8], bytes: &mut [u8]) -> usize
     requires { ⌜ 32768 ≤ length (now bytes) ⌝ }
 {
-    if same(word, b"-") {
+    if check::same(word, b"-") {
         return 0;
     }
     let n = word.len() / 2;

@@ -12,32 +12,25 @@
 //                     of the mark, with 15 for one of the version, with 16 for any other; and how many
 //                     are answered otherwise
 use images::WriteAnswer;
-use libc::STDOUT_FILENO;
+use number_text::Input;
+use number_text::LONGEST;
+use number_text::end_line;
+use number_text::first;
+use number_text::least;
+use number_text::narrow8;
+use number_text::spaced;
+use number_text::wide8;
+use number_text::wide32;
+use number_text::within;
 use placement::Pool;
 ghost use Prim.Native.Nat.{_≤_, _<_};
 ghost use lib.ListN.{length};
 
 const SIZE: usize = 32768;
 
-fn wide8(x: u8) -> u64 {
-    x as u64
-}
-
-fn wide32(x: u32) -> u64 {
-    x as u64
-}
-
-fn narrow8(x: u64) -> u8 {
-    if x > 255 {
-        return 255;
-    }
-    x as u8
-}
-
 // Stores the numbers of a line, from one place up to another, as bytes, and answers how many.
 fn load(bytes: &mut [u8], numbers: &[u64; 16384], from: usize, to: usize) -> usize
     requires { ⌜ (from ≤ to) × (to ≤ 16384) × (16384 ≤ length (now bytes)) ⌝ }
-    ensures { λ r. ⌜ r ≤ 16384 ⌝ }
 {
     let mut n = 0;
     while n < to - from {
@@ -47,13 +40,10 @@ fn load(bytes: &mut [u8], numbers: &[u64; 16384], from: usize, to: usize) -> usi
     n
 }
 
-// Prints the first n bytes.
-fn print_bytes(bytes: &[u8; SIZE], n: usize)
-    requires { ⌜ n ≤ 32768 ⌝ }
-{
+fn print_bytes(bytes: &[u8]) {
     let mut i = 0;
-    while i < n {
-        number_text::spaced(wide8(bytes[i]));
+    while i < bytes.len() {
+        spaced(wide8(bytes[i]));
         i += 1;
     }
 }
@@ -62,101 +52,86 @@ fn print_bytes(bytes: &[u8; SIZE], n: usize)
 fn print_digest(bytes: &[u8]) {
     let answer = sha1::digest(bytes);
     let words = answer.words;
-    let mut i = 0;
-    while i < 5 {
-        number_text::spaced(wide32(words[i]));
-        i += 1;
-    }
+    let list = [
+        wide32(words[0]),
+        wide32(words[1]),
+        wide32(words[2]),
+        wide32(words[3]),
+        wide32(words[4]),
+    ];
+    number_text::spaced_list(&list, 5);
 }
 
 // Writes a pool, and prints the refusal number and the length; answers the length.
 fn print_written(pool: Pool, buffer: &mut [u8]) -> usize {
     match images::write(pool, &mut *buffer) {
         WriteAnswer::Written(n) => {
-            io::print_decimal(STDOUT_FILENO, 0);
-            number_text::spaced(n as u64);
+            first(0);
+            spaced(n as u64);
             n
         }
         WriteAnswer::Refused(refusal) => {
-            io::print_decimal(STDOUT_FILENO, wide32(refusal));
-            number_text::spaced(0);
+            first(wide32(refusal));
+            spaced(0);
             0
         }
     }
 }
 
-fn read_case(bytes: &[u8]) {
+// Reads some bytes, and prints the refusal number; then the image of the pool made, by its bytes or by its
+// digest, or the refusal number of its write.
+fn print_read(bytes: &[u8], by_digest: bool) {
     let mut buffer = [170u8; SIZE];
     let answer = images::read(bytes);
     let pool = answer.pool;
-    io::print_decimal(STDOUT_FILENO, wide32(answer.refusal));
+    first(wide32(answer.refusal));
     match images::write(pool, &mut buffer) {
-        WriteAnswer::Written(n) => {
-            print_bytes(&buffer, pool_text::least(n as u64, SIZE));
+        WriteAnswer::Written(written) => {
+            let n = within(written, &buffer);
+            if by_digest {
+                print_digest(&buffer[..n]);
+            } else {
+                print_bytes(&buffer[..n]);
+            }
         }
         WriteAnswer::Refused(refusal) => {
-            number_text::spaced(wide32(refusal));
+            spaced(wide32(refusal));
         }
     }
-    number_text::end_line();
+    end_line();
 }
 
-fn write_case(bytes: &[u8], size: usize)
-    requires { ⌜ size ≤ 32768 ⌝ }
-{
+// Prints the answer of a write into a buffer, and the buffer afterwards.
+fn print_write(pool: Pool, buffer: &mut [u8]) {
+    print_written(pool, &mut *buffer);
+    print_bytes(buffer);
+    end_line();
+}
+
+fn write_case(bytes: &[u8], size: usize) {
     let mut buffer = [170u8; SIZE];
     let answer = images::read(bytes);
     let pool = answer.pool;
-    print_written(pool, &mut buffer[..size]);
-    print_bytes(&buffer, size);
-    number_text::end_line();
+    let n = within(size, &buffer);
+    print_write(pool, &mut buffer[..n]);
 }
 
 fn pool_case(pool: Pool) {
     let mut buffer = [170u8; SIZE];
-    let n = pool_text::least(print_written(pool, &mut buffer) as u64, SIZE);
+    let written = print_written(pool, &mut buffer);
     print_digest(&buffer);
-    let answer = images::read(&buffer[..n]);
-    let read = answer.pool;
-    let mut again = [170u8; SIZE];
-    number_text::spaced(wide32(answer.refusal));
-    match images::write(read, &mut again) {
-        WriteAnswer::Written(m) => {
-            let size = pool_text::least(m as u64, SIZE);
-            print_digest(&again[..size]);
-        }
-        WriteAnswer::Refused(refusal) => {
-            number_text::spaced(wide32(refusal));
-        }
-    }
-    number_text::end_line();
-}
-
-// Whether the first n bytes are the same.
-fn same(a: &[u8], b: &[u8], n: usize) -> bool
-    requires { ⌜ (n ≤ length (now a)) × (n ≤ length (now b)) ⌝ }
-{
-    let mut i = 0;
-    while i < n {
-        if a[i] != b[i] {
-            return false;
-        }
-        i += 1;
-    }
-    true
+    number_text::space();
+    let n = within(written, &buffer);
+    print_read(&buffer[..n], true);
 }
 
 // Whether a pool writes back to exactly these bytes.
-fn written_back(pool: Pool, bytes: &[u8]) -> bool
-    requires { ⌜ length (now bytes) ≤ 32768 ⌝ }
-{
+fn written_back(pool: Pool, bytes: &[u8]) -> bool {
     let mut buffer = [170u8; SIZE];
     match images::write(pool, &mut buffer) {
-        WriteAnswer::Written(n) => {
-            if n != bytes.len() {
-                return false;
-            }
-            same(&buffer, bytes, n)
+        WriteAnswer::Written(written) => {
+            let n = within(written, &buffer);
+            check::same(&buffer[..n], bytes)
         }
         WriteAnswer::Refused(refusal) => { false }
     }
@@ -164,9 +139,7 @@ fn written_back(pool: Pool, bytes: &[u8]) -> bool
 
 // The answer of a read of bytes that were changed at a place: 0 where they are read and written back, 14
 // to 16 where they are refused for that place, and else 1.
-fn judged(bytes: &[u8], place: usize) -> u64
-    requires { ⌜ length (now bytes) ≤ 32768 ⌝ }
-{
+fn judged(bytes: &[u8], place: usize) -> u64 {
     let answer = images::read(bytes);
     let pool = answer.pool;
     if answer.refusal == 0 {
@@ -228,7 +201,7 @@ fn counted(tally: Tally, answer: u64) -> Tally {
 
 // Every other byte at a place.
 fn changed(bytes: &mut [u8], place: usize, tally: Tally) -> Tally
-    requires { ⌜ (place < length (now bytes)) × (length (now bytes) ≤ 32768) ⌝ }
+    requires { ⌜ place < length (now bytes) ⌝ }
 {
     let mut next = tally;
     let was = bytes[place];
@@ -244,9 +217,16 @@ fn changed(bytes: &mut [u8], place: usize, tally: Tally) -> Tally
     next
 }
 
-fn damage_case(bytes: &mut [u8])
-    requires { ⌜ length (now bytes) ≤ 32768 ⌝ }
-{
+fn print_tally(tally: Tally) {
+    first(tally.accepted);
+    spaced(tally.marks);
+    spaced(tally.versions);
+    spaced(tally.faults);
+    spaced(tally.wrong);
+    end_line();
+}
+
+fn damage_case(bytes: &mut [u8]) {
     let mut tally = Tally {
         accepted: 0,
         marks: 0,
@@ -259,18 +239,31 @@ fn damage_case(bytes: &mut [u8])
         tally = changed(&mut *bytes, place, tally);
         place += 1;
     }
-    io::print_decimal(STDOUT_FILENO, tally.accepted);
-    number_text::spaced(tally.marks);
-    number_text::spaced(tally.versions);
-    number_text::spaced(tally.faults);
-    number_text::spaced(tally.wrong);
-    number_text::end_line();
+    print_tally(tally);
+}
+
+fn bytes_case(kind: u64, size: u64, bytes: &mut [u8]) {
+    if kind == 4 {
+        damage_case(&mut *bytes);
+        return;
+    }
+    if kind == 2 {
+        write_case(bytes, least(size, SIZE));
+        return;
+    }
+    print_read(bytes, false);
+}
+
+// The place of a line's first byte.
+fn bytes_from(kind: u64) -> usize
+    ensures { λ r. ⌜ r ≤ 2 ⌝ }
+{
+    if kind == 2 { 2 } else { 1 }
 }
 
 fn run(numbers: &[u64; 16384], count: usize)
     requires { ⌜ count ≤ 16384 ⌝ }
 {
-    let mut bytes = [0u8; SIZE];
     let kind = numbers[0];
     if kind == 3 {
         pool_case(pool_text::loaded(numbers));
@@ -279,32 +272,24 @@ fn run(numbers: &[u64; 16384], count: usize)
     if count < 2 {
         return;
     }
-    if kind == 2 {
-        let size = pool_text::least(numbers[1], SIZE);
-        let n = load(&mut bytes, numbers, 2, count);
-        write_case(&bytes[..n], size);
-        return;
-    }
-    let n = load(&mut bytes, numbers, 1, count);
-    if kind == 4 {
-        damage_case(&mut bytes[..n]);
-        return;
-    }
-    read_case(&bytes[..n]);
+    let mut bytes = [0u8; SIZE];
+    let loaded = load(&mut bytes, numbers, bytes_from(kind), count);
+    let n = within(loaded, &bytes);
+    bytes_case(kind, numbers[1], &mut bytes[..n]);
 }
 
 // A line without numbers ends the program.
 fn main() {
-    let mut piece = [0u8; 65536];
+    let mut piece = [0u8; LONGEST];
     let mut numbers = [0u64; 16384];
-    let mut input = number_text::start();
+    let mut input = Input::new();
     let mut left: u64 = 1000000;
     while left > 0 {
-        input = number_text::read_line(input, &mut piece, &mut numbers);
+        input = number_text::read_numbers(input, &mut piece, &mut numbers);
         if input.count == 0 {
             return;
         }
-        run(&numbers, pool_text::least(input.count as u64, 16384));
+        run(&numbers, least(input.count as u64, 16384));
         left -= 1;
     }
 }

@@ -9,27 +9,19 @@
 //
 // Where `whole` is not 1 only the refusal number is printed, if it is 10, 11 or 13, and else 0: the rules
 // fix no more for a pool that is not valid.
-use libc::STDOUT_FILENO;
 use lookups::CopiesAnswer;
 use lookups::Counters;
 use lookups::OwnerAnswer;
 use lookups::PointAnswer;
+use number_text::Input;
+use number_text::LONGEST;
+use number_text::end_line;
+use number_text::first;
+use number_text::narrow32;
+use number_text::pair;
+use number_text::spaced;
+use number_text::wide32;
 use placement::Pool;
-
-fn wide16(x: u16) -> u64 {
-    x as u64
-}
-
-fn wide32(x: u32) -> u64 {
-    x as u64
-}
-
-// A line of two numbers.
-fn print_pair(a: u64, b: u64) {
-    io::print_decimal(STDOUT_FILENO, a);
-    number_text::spaced(b);
-    number_text::end_line();
-}
 
 // Prints a refusal number that the rules fix for every pool; 0 for any other.
 fn print_fixed(refusal: u32) {
@@ -43,13 +35,13 @@ fn print_fixed(refusal: u32) {
     if refusal == 13 {
         fixed = 13;
     }
-    io::print_decimal(STDOUT_FILENO, fixed);
-    number_text::end_line();
+    first(fixed);
+    end_line();
 }
 
 fn print_owner(refusal: u32, owner: u64, whole: u64) {
     if whole == 1 {
-        print_pair(wide32(refusal), owner);
+        pair(wide32(refusal), owner);
         return;
     }
     print_fixed(refusal);
@@ -69,37 +61,29 @@ fn owner_case(pool: Pool, point: u64, whole: u64) {
 fn point_case(block: u64, probe: u64, range: u64) {
     match lookups::point(block, probe, range) {
         PointAnswer::Point(point) => {
-            print_pair(0, point);
+            pair(0, point);
         }
         PointAnswer::Refused(refusal) => {
-            print_pair(wide32(refusal), 0);
+            pair(wide32(refusal), 0);
         }
-    }
-}
-
-fn print_owners(owners: &[u16; 8]) {
-    let mut i = 0;
-    while i < 8 {
-        number_text::spaced(wide16(owners[i]));
-        i += 1;
     }
 }
 
 fn print_copies(answer: CopiesAnswer) {
     let owners = answer.owners;
     let counters = answer.counters;
-    io::print_decimal(STDOUT_FILENO, wide32(answer.refusal));
-    print_owners(&owners);
-    number_text::spaced(wide32(answer.probes));
-    number_text::spaced(wide32(counters.lookups));
-    number_text::spaced(wide32(counters.probes));
-    number_text::end_line();
+    first(wide32(answer.refusal));
+    number_text::spaced_owners(&owners);
+    spaced(wide32(answer.probes));
+    spaced(wide32(counters.lookups));
+    spaced(wide32(counters.probes));
+    end_line();
 }
 
 fn copies_case(pool: Pool, numbers: &[u64; 16384]) {
     let counters = Counters {
-        lookups: pool_text::narrow32(numbers[3]),
-        probes: pool_text::narrow32(numbers[4]),
+        lookups: narrow32(numbers[3]),
+        probes: narrow32(numbers[4]),
     };
     let answer = lookups::copies_of(pool, numbers[1], numbers[2], counters);
     if numbers[5] == 1 {
@@ -129,14 +113,14 @@ fn run(pool: Pool, numbers: &[u64; 16384]) -> Pool {
 
 // A line without numbers ends the program.
 fn main() {
-    let first = placement::fresh(1, 1);
-    let mut pool = first.pool;
-    let mut piece = [0u8; 65536];
+    let made = placement::fresh(1, 1);
+    let mut pool = made.pool;
+    let mut piece = [0u8; LONGEST];
     let mut numbers = [0u64; 16384];
-    let mut input = number_text::start();
+    let mut input = Input::new();
     let mut left: u64 = 1000000;
     while left > 0 {
-        input = number_text::read_line(input, &mut piece, &mut numbers);
+        input = number_text::read_numbers(input, &mut piece, &mut numbers);
         if input.count == 0 {
             return;
         }

@@ -1,16 +1,8 @@
 // Prints the refusal number and the digest of the published SHA-1 messages, of messages around every
 // block border up to 200 bytes and of the largest. The expected output was made by `sha1sum`.
 use libc::STDOUT_FILENO;
-ghost use mathlib.Core.Path.{_≡_};
-ghost use Prim.Native.Nat.{_≤_};
-ghost use lib.ListN.{length};
-
-// 65,537 bytes, one more than are hashed.
-fn buffer() -> [u8; 65537]
-    ensures { λ r. ⌜ 65537 ≡ length r ⌝ }
-{
-    [0; 65537]
-}
+use number_text::first;
+use number_text::wide32;
 
 // Byte j is j modulo 251, so that no two blocks are alike.
 fn fill(out: &mut [u8]) {
@@ -24,14 +16,10 @@ fn fill(out: &mut [u8]) {
 fn print_answer(message: &[u8]) {
     let answer = sha1::digest(message);
     let words = answer.words;
-    io::print_decimal(STDOUT_FILENO, answer.refusal as u64);
-    io::write_all(STDOUT_FILENO, b" ");
-    let mut i = 0;
-    while i < 5 {
-        io::print_hex(STDOUT_FILENO, words[i] as u64, 8);
-        i += 1;
-    }
-    io::write_all(STDOUT_FILENO, b"\n");
+    first(wide32(answer.refusal));
+    number_text::space();
+    number_text::hexadecimal(&words);
+    number_text::end_line();
 }
 
 fn published(name: &[u8], message: &[u8]) {
@@ -41,12 +29,20 @@ fn published(name: &[u8], message: &[u8]) {
 }
 
 // The first n bytes.
-fn counted(bytes: &[u8], n: usize)
-    requires { ⌜ n ≤ length (now bytes) ⌝ }
-{
-    io::print_decimal(STDOUT_FILENO, n as u64);
+fn counted(bytes: &[u8], n: usize) {
+    first(n as u64);
     io::write_all(STDOUT_FILENO, b" bytes: ");
-    print_answer(&bytes[..n]);
+    let size = number_text::within(n, bytes);
+    print_answer(&bytes[..size]);
+}
+
+// The messages around every block border up to 200 bytes.
+fn borders(bytes: &[u8]) {
+    let mut n = 0;
+    while n <= 200 {
+        counted(bytes, n);
+        n += 1;
+    }
 }
 
 fn main() {
@@ -60,15 +56,10 @@ fn main() {
         b"896 bits",
         b"abcdefghbcdefghicdefghijdefghijkefghijklfghijklmghijklmnhijklmnoijklmnopjklmnopqklmnopqrlmnopqrsmnopqrstnopqrstu",
     );
-    let mut space = buffer();
-    let bytes: &mut [u8] = &mut space;
-    fill(&mut *bytes);
-    let mut n = 0;
-    while n <= 200 {
-        counted(bytes, n);
-        n += 1;
-    }
-    counted(bytes, 65535);
-    counted(bytes, 65536);
-    counted(bytes, 65537);
+    let mut bytes = [0u8; 65537];
+    fill(&mut bytes);
+    borders(&bytes);
+    counted(&bytes, 65535);
+    counted(&bytes, 65536);
+    counted(&bytes, 65537);
 }

@@ -1,7 +1,6 @@
 -- `conformance::main` is safe and ends. The loop's invariant: the line has as many places as before. The measure is the count that falls.
 use mathlib.Core.Path.{_≡_}
-use native.Mathlib.Omega.{arith}
-use lib.ListN.{length, length-take}
+use lib.ListN.{length}
 use borrow.Author.Needs.{needs}
 use Rattle.conformance.proofs.main.Statement.{statement}
 use Rattle.conformance.proofs.main.Tie as tie
@@ -30,11 +29,17 @@ finished-requires c κs = search needs
 returns : tie.Need-returns Inv-loop μ-loop
 returns c = search needs
 
+slice-aggregate-within : tie.Need-slice-aggregate-within Inv-loop μ-loop
+slice-aggregate-within c = search needs
+
+within-requires : tie.Need-within-requires Inv-loop μ-loop
+within-requires c κs = search needs
+
 array-share-prefix-line : tie.Need-array-share-prefix-line Inv-loop μ-loop
 array-share-prefix-line c = search needs
 
 slice-aggregate-answer : tie.Need-slice-aggregate-answer Inv-loop μ-loop
-slice-aggregate-answer c = simp length-take (omega arith)
+slice-aggregate-answer c = search needs
 
 answer-requires : tie.Need-answer-requires Inv-loop μ-loop
 answer-requires c κs = search needs
@@ -63,6 +68,8 @@ main-spec =
     read-line-requires
     finished-requires
     returns
+    slice-aggregate-within
+    within-requires
     array-share-prefix-line
     slice-aggregate-answer
     answer-requires

@@ -30,7 +30,7 @@ slice-write-bytes : tie.Need-slice-write-bytes Inv-loop μ-loop
 slice-write-bytes c = search needs
 
 judged-requires : tie.Need-judged-requires Inv-loop μ-loop
-judged-requires c κs = simp length-set (omega arith)
+judged-requires c κs = search needs
 
 counted-requires : tie.Need-counted-requires Inv-loop μ-loop
 counted-requires c κs = search needs

@@ -27,23 +27,8 @@ loop-less c = search needs
 loop-again : tie.Need-loop-again Inv-loop μ-loop
 loop-again c = search needs
 
-print-decimal-requires : tie.Need-print-decimal-requires Inv-loop μ-loop
-print-decimal-requires c κs = search needs
-
-spaced-requires : tie.Need-spaced-requires Inv-loop μ-loop
-spaced-requires c κs = search needs
-
-spaced-requires-2 : tie.Need-spaced-requires-2 Inv-loop μ-loop
-spaced-requires-2 c κs = search needs
-
-spaced-requires-3 : tie.Need-spaced-requires-3 Inv-loop μ-loop
-spaced-requires-3 c κs = search needs
-
-spaced-requires-4 : tie.Need-spaced-requires-4 Inv-loop μ-loop
-spaced-requires-4 c κs = search needs
-
-end-line-requires : tie.Need-end-line-requires Inv-loop μ-loop
-end-line-requires c κs = search needs
+print-tally-requires : tie.Need-print-tally-requires Inv-loop μ-loop
+print-tally-requires c κs = search needs
 
 same-length : tie.Need-same-length Inv-loop μ-loop
 same-length c = search needs
@@ -62,11 +47,6 @@ damage-case-spec =
     add-place
     loop-less
     loop-again
-    print-decimal-requires
-    spaced-requires
-    spaced-requires-2
-    spaced-requires-3
-    spaced-requires-4
-    end-line-requires
+    print-tally-requires
     same-length
     returns)

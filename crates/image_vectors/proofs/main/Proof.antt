@@ -9,14 +9,14 @@ Inv-loop piece₀ numbers₀ input₀ left₀ piece numbers input left = Unit {0
 abbrev μ-loop : tie.MeasureT-loop
 μ-loop piece₀ numbers₀ input₀ left₀ piece numbers input left = left
 
-start-requires : tie.Need-start-requires Inv-loop μ-loop
-start-requires c κs = search needs
+new-requires : tie.Need-new-requires Inv-loop μ-loop
+new-requires c κs = search needs
 
 loop-holds : tie.Need-loop-holds Inv-loop μ-loop
 loop-holds c = search needs
 
-read-line-requires : tie.Need-read-line-requires Inv-loop μ-loop
-read-line-requires c κs = search needs
+read-numbers-requires : tie.Need-read-numbers-requires Inv-loop μ-loop
+read-numbers-requires c κs = search needs
 
 returns : tie.Need-returns Inv-loop μ-loop
 returns c = search needs
@@ -45,9 +45,9 @@ main-spec =
     (tie.spec
     Inv-loop
     μ-loop
-    start-requires
+    new-requires
     loop-holds
-    read-line-requires
+    read-numbers-requires
     returns
     least-requires
     run-requires

@@ -1,20 +1,21 @@
--- `image_vectors::print_bytes` is safe and ends. The loop's invariant: `i` is at most n.
-use Prim.Native.Nat.{_≤_, _-_}
+-- `image_vectors::print_bytes` is safe and ends. The measure is what is left of the bytes.
+use Prim.Native.Nat.{_-_}
+use lib.ListN.{length}
 use borrow.Author.Needs.{needs}
 use Rattle.image_vectors.proofs.print_bytes.Statement.{statement}
 use Rattle.image_vectors.proofs.print_bytes.Tie as tie
 
 abbrev Inv-loop : tie.InvT-loop
-Inv-loop bytes n i₀ i = i ≤ n
+Inv-loop bytes i₀ i = Unit {0}
 
 abbrev μ-loop : tie.MeasureT-loop
-μ-loop bytes n i₀ i = n - i
+μ-loop bytes i₀ i = length bytes - i
 
 loop-holds : tie.Need-loop-holds Inv-loop μ-loop
 loop-holds c = search needs
 
-element-copy-out-wide8 : tie.Need-element-copy-out-wide8 Inv-loop μ-loop
-element-copy-out-wide8 c = search needs
+shared-slice-read-wide8 : tie.Need-shared-slice-read-wide8 Inv-loop μ-loop
+shared-slice-read-wide8 c = search needs
 
 wide8-requires : tie.Need-wide8-requires Inv-loop μ-loop
 wide8-requires c κs = search needs
@@ -41,7 +42,7 @@ print-bytes-spec =
     Inv-loop
     μ-loop
     loop-holds
-    element-copy-out-wide8
+    shared-slice-read-wide8
     wide8-requires
     spaced-requires
     add-i

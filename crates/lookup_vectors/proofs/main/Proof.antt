@@ -12,14 +12,14 @@ abbrev μ-loop : tie.MeasureT-loop
 fresh-requires : tie.Need-fresh-requires Inv-loop μ-loop
 fresh-requires c κs = search needs
 
-start-requires : tie.Need-start-requires Inv-loop μ-loop
-start-requires c κs = search needs
+new-requires : tie.Need-new-requires Inv-loop μ-loop
+new-requires c κs = search needs
 
 loop-holds : tie.Need-loop-holds Inv-loop μ-loop
 loop-holds c = search needs
 
-read-line-requires : tie.Need-read-line-requires Inv-loop μ-loop
-read-line-requires c κs = search needs
+read-numbers-requires : tie.Need-read-numbers-requires Inv-loop μ-loop
+read-numbers-requires c κs = search needs
 
 returns : tie.Need-returns Inv-loop μ-loop
 returns c = search needs
@@ -46,9 +46,9 @@ main-spec =
     Inv-loop
     μ-loop
     fresh-requires
-    start-requires
+    new-requires
     loop-holds
-    read-line-requires
+    read-numbers-requires
     returns
     run-requires
     sub-left
