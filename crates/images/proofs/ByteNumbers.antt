@@ -1,14 +1,13 @@
 -- Numbers in bytes, for every width.
 --
 -- Bytes xs                 every place of xs holds a byte
--- Bytes: bytes-nil, bytes-join (of xs ++ ys), bytes-bytes (a number's bytes are bytes)
 -- bytes: bytes-low (they depend on the number modulo 2 ^ (8 * k) alone)
 -- numberAt: numberAt-append (behind a front), numberAt-join (a + b bytes), joined (a result for each part), numberAt-drop, numberAt-below
 -- both ways: bytes-numberAt, numberAt-low (of any number), numberAt-bytes (of one that fits)
 use mathlib.Core.Path.{_≡_, refl, sym, ap, ap₂, _∙_}
 use mathlib.Core.List.{List, [], _∷_, _++_, append-assoc}
 use Prim.Native.Nat.{ℕ, zero, suc, _+_, _*_, _/_, _%_, _^_, _≤_, _<_}
-use native.Mathlib.Nat.{add-zero, zero-add, add-assoc, zero-mul, add-mul, mul-assoc, mod-lt, mod-mod, mod-eq-of-lt}
+use native.Mathlib.Nat.{add-zero, zero-add, add-assoc, zero-mul, add-mul, mul-assoc, mod-mod, mod-eq-of-lt}
 use native.Mathlib.Omega.{arith}
 use lib.Arith.{digits-lt}
 use lib.ListN.{length, take, drop}
@@ -21,19 +20,6 @@ use Rattle.images.specs.Format.{numberAt}
 -- every place holds a byte
 abbrev pub Bytes : List ℕ → Type 0
 Bytes xs = (i : ℕ) → at xs i < 256
-
-pub bytes-nil : Bytes []
-bytes-nil i = omega arith
-
-pub bytes-join : (xs ys : List ℕ) → Bytes xs → Bytes ys → Bytes (xs ++ ys)
-bytes-join [] ys h l i = l i
-bytes-join (x ∷ xs) ys h l zero = h zero
-bytes-join (x ∷ xs) ys h l (suc i) = bytes-join xs ys (λ j. h (suc j)) l i
-
-pub bytes-bytes : (k x : ℕ) → Bytes (bytes k x)
-bytes-bytes zero x i = omega arith
-bytes-bytes (suc k) x zero = mod-lt (x / 2 ^ (8 * k)) (omega arith)
-bytes-bytes (suc k) x (suc i) = bytes-bytes k x i
 
 -- one byte more
 wider : (k : ℕ) → 8 * suc k ≡ 8 + 8 * k

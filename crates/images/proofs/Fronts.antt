@@ -1,9 +1,10 @@
 -- Bytes put behind one another: what stands in a buffer after a number is stored in it.
 --
--- put-one (one byte), put-halves (a number in two halves); bytes-halves
+-- put-one (one byte), put-parts (bytes behind bytes); bytes-halves
 -- head-put (the numbers of the head behind one another)
--- pairBytes-snoc, length-pairBytes, pairBytes-put (one row more)
-use mathlib.Core.Path.{_≡_, refl, sym, ap, ap₂, _∙_}
+-- rows: length-pairBytes, rowsBytes-none, rowsBytes-put (one row more)
+use mathlib.Core.Path.{_≡_, refl, sym, ap, _∙_}
+use mathlib.Core.Bool.{Bool, true, false}
 use mathlib.Core.List.{List, [], _∷_, _++_, append-assoc, append-nil}
 use Prim.Native.Nat.{ℕ, zero, suc, _+_, _*_, _/_, _%_, _^_, _≤_, _<_}
 use native.Mathlib.Omega.{arith}
@@ -16,7 +17,7 @@ use Rattle.sha1.proofs.TwelveBytes.{bytes-append}
 use Rattle.slicing_core.specs.Rows.{at}
 use Rattle.slicing_core.proofs.Fronts.{front-put}
 use Rattle.images.specs.Format.{mark, version, headSize, head}
-use Rattle.images.specs.RowBytes.{pairBytes}
+use Rattle.images.specs.RowBytes.{pairBytes, rowBytes, rowsBytes}
 use Rattle.images.proofs.ByteNumbers.{bytes-low}
 use Rattle.images.proofs.ImageSizes.{length-bytes}
 
@@ -27,16 +28,16 @@ put-one before i x h b =
     let after : List ℕ = drop (i + 1) before in
     set-split before i x h ∙ sym (ap (λ y. take i before ++ (y ∷ []) ++ after) e ∙ append-snoc (take i before) x after ∙ rw add-one)
 
--- two halves of k bytes, put at places i and i + k
-pub put-halves : (before xs ys after after' : List ℕ) (i k : ℕ) → length xs ≡ k → i ≤ length before
-    → after ≡ take i before ++ xs ++ drop (i + k) before → after' ≡ take (i + k) after ++ ys ++ drop (i + k + k) after
-    → after' ≡ take i before ++ (xs ++ ys) ++ drop (i + (k + k)) before
-put-halves before xs ys after after' i k l h e f =
+-- parts of a and b bytes, put at places i and i + a
+pub put-parts : (before xs ys after after' : List ℕ) (i a b : ℕ) → length xs ≡ a → i ≤ length before
+    → after ≡ take i before ++ xs ++ drop (i + a) before → after' ≡ take (i + a) after ++ ys ++ drop (i + a + b) after
+    → after' ≡ take i before ++ (xs ++ ys) ++ drop (i + (a + b)) before
+put-parts before xs ys after after' i a b l h e f =
     let n : length (take i before) ≡ i = omega (arith, length-take i before) in
-    let m : length (take i before ++ xs) ≡ i + k = omega (arith, length-append (take i before) xs) in
-    let d : i + k + k ≡ i + (k + k) = omega arith in
-    let first = front-put before (take i before) xs before after i k n (sym (take-append-drop i before)) e in
-    let second = front-put before (take i before ++ xs) ys after after' (i + k) k m first f in
+    let m : length (take i before ++ xs) ≡ i + a = omega (arith, length-append (take i before) xs) in
+    let d : i + a + b ≡ i + (a + b) = omega arith in
+    let first = front-put before (take i before) xs before after i a n (sym (take-append-drop i before)) e in
+    let second = front-put before (take i before ++ xs) ys after after' (i + a) b m first f in
     second ∙ rw (d, append-assoc (take i before) xs ys)
 
 -- a number's bytes are those of its high half and of its low half
@@ -79,25 +80,33 @@ length-pairBytes a b xs ys i (suc n) w =
       length-pairBytes a b xs ys (suc i) n w,
     )
 
-pub pairBytes-snoc : (a b : ℕ) (xs ys : List ℕ) (i n : ℕ)
-    → pairBytes a b xs ys i (n + 1) ≡ pairBytes a b xs ys i n ++ bytes a (at xs (i + n)) ++ bytes b (at ys (i + n))
+pairBytes-snoc : (a b : ℕ) (xs ys : List ℕ) (i n : ℕ)
+    → pairBytes a b xs ys i (n + 1) ≡ pairBytes a b xs ys i n ++ (bytes a (at xs (i + n)) ++ bytes b (at ys (i + n)))
 pairBytes-snoc a b xs ys i zero = rw (append-nil, add-zero)
 pairBytes-snoc a b xs ys i (suc n) =
     let e : suc n + 1 ≡ suc (n + 1) = omega arith in
     let f : i + suc n ≡ suc i + n = omega arith in
     rw (e, f, pairBytes-snoc a b xs ys (suc i) n) (simp append-assoc)
 
--- one row more: x in a bytes and y in b bytes, put behind i rows
-pub pairBytes-put : (a b : ℕ) (xs ys before after middle after' : List ℕ) (i x y : ℕ) → a + b ≡ 6 → x ≡ at xs i → y ≡ at ys i
-    → after ≡ pairBytes a b xs ys 0 i ++ drop (6 * i) before
-    → middle ≡ take (6 * i) after ++ bytes a x ++ drop (6 * i + a) after
-    → after' ≡ take (6 * i + a) middle ++ bytes b y ++ drop (6 * i + a + b) middle
-    → after' ≡ pairBytes a b xs ys 0 (i + 1) ++ drop (6 * (i + 1)) before
-pairBytes-put a b xs ys before after middle after' i x y w e f h m n =
-    let done : List ℕ = pairBytes a b xs ys 0 i in
-    let l : length done ≡ 6 * i = length-pairBytes a b xs ys 0 i w in
-    let k : length (done ++ bytes a x) ≡ 6 * i + a = length-append done (bytes a x) ∙ ap₂ (λ p q. p + q) l (length-bytes a x) in
-    let d : 6 * i + a + b ≡ 6 * (i + 1) = omega arith in
-    let first = front-put before done (bytes a x) after middle (6 * i) a l h m in
-    let second = front-put before (done ++ bytes a x) (bytes b y) middle after' (6 * i + a) b k first n in
-    second ∙ rw (d, e, f, pairBytes-snoc a b xs ys 0 i, zero-add)
+length-rowsBytes : (t : Bool) (xs ys : List ℕ) (i n : ℕ) → length (rowsBytes t xs ys i n) ≡ 6 * n
+length-rowsBytes true xs ys i n = length-pairBytes 2 4 xs ys i n refl
+length-rowsBytes false xs ys i n = length-pairBytes 4 2 ys xs i n refl
+
+rowsBytes-snoc : (t : Bool) (xs ys : List ℕ) (i n : ℕ)
+    → rowsBytes t xs ys i (n + 1) ≡ rowsBytes t xs ys i n ++ rowBytes t (at xs (i + n)) (at ys (i + n))
+rowsBytes-snoc true xs ys i n = pairBytes-snoc 2 4 xs ys i n
+rowsBytes-snoc false xs ys i n = pairBytes-snoc 4 2 ys xs i n
+
+pub rowsBytes-none : (t : Bool) (xs ys before : List ℕ) → before ≡ rowsBytes t xs ys 0 0 ++ before
+rowsBytes-none true xs ys before = refl
+rowsBytes-none false xs ys before = refl
+
+-- one row more, put behind i rows
+pub rowsBytes-put : (t : Bool) (xs ys before after after' : List ℕ) (i : ℕ) → after ≡ rowsBytes t xs ys 0 i ++ drop (6 * i) before
+    → after' ≡ take (6 * i) after ++ rowBytes t (at xs i) (at ys i) ++ drop (6 * i + 6) after
+    → after' ≡ rowsBytes t xs ys 0 (i + 1) ++ drop (6 * (i + 1)) before
+rowsBytes-put t xs ys before after after' i h m =
+    let done : List ℕ = rowsBytes t xs ys 0 i in
+    let d : 6 * i + 6 ≡ 6 * (i + 1) = omega arith in
+    front-put before done (rowBytes t (at xs i) (at ys i)) after after' (6 * i) 6 (length-rowsBytes t xs ys 0 i) h m
+    ∙ rw (d, rowsBytes-snoc t xs ys 0 i, zero-add)

@@ -4,7 +4,7 @@
 -- a valid state fits: covered, ids-fit, capacities-fit, starts-fit, owners-fit
 -- what its image holds: rangeIn-imageOf, limitIn-imageOf, devicesIn-imageOf, intervalsIn-imageOf, idsIn-imageOf, capacitiesIn-imageOf,
 -- startsIn-imageOf, ownersIn-imageOf
--- both ways: imageOf-stateIn, stateIn-imageOf, image-imageOf, bytes-imageOf, imageOf-injective
+-- both ways: imageOf-stateIn, stateIn-imageOf, image-imageOf, imageOf-injective
 use mathlib.Core.Path.{_≡_, refl, sym, ap, ap₂, _∙_, subst}
 use mathlib.Core.Bool.{Bool, true, false, _&&_, false≢true}
 use mathlib.Core.List.{List, [], _∷_, _++_, append-nil}
@@ -28,7 +28,7 @@ use Rattle.placement.proofs.PaddedRows.{length-startsOf, length-ownersOf}
 use Rattle.placement.proofs.PoolLaws.{deviceRows-of, tableRows-of, length-tableRows, length-ids, length-capacitiesOf}
 use Rattle.images.specs.Format.{mark, version, head, deviceBytes, intervalBytes, imageOf, numberAt, rangeIn, limitIn, devicesIn, intervalsIn, column, idsIn, capacitiesIn, startsIn, ownersIn, stateIn, marked, Image}
 use Rattle.images.specs.RowBytes.{pairBytes}
-use Rattle.images.proofs.ByteNumbers.{Bytes, bytes-nil, bytes-join, bytes-bytes, bytes-numberAt, numberAt-bytes}
+use Rattle.images.proofs.ByteNumbers.{Bytes, bytes-numberAt, numberAt-bytes}
 use Rattle.images.proofs.ImageSizes.{length-deviceBytes, length-imageOf}
 use Rattle.images.proofs.ImageRows.{deviceBytes-rows, intervalBytes-rows, deviceBytes-lists, intervalBytes-lists, pairBytes-columns, column-first, column-second, joined}
 
@@ -184,40 +184,6 @@ module _ (s : State) (v : Valid s) where
 
 pub imageOf-injective : (s t : State) → Valid s → Valid t → imageOf s ≡ imageOf t → s ≡ t
 imageOf-injective s t v w e = sym (stateIn-imageOf s v) ∙ ap stateIn e ∙ stateIn-imageOf t w
-
--- ---- an image's bytes are bytes
-
-bytes-devices : (ds : List Device) → Bytes (deviceBytes ds)
-bytes-devices [] = bytes-nil
-bytes-devices (e ∷ ds) =
-    bytes-join (bytes 2 (e .id) ++ bytes 4 (e .capacity)) (deviceBytes ds)
-    (bytes-join (bytes 2 (e .id)) (bytes 4 (e .capacity)) (bytes-bytes 2 (e .id)) (bytes-bytes 4 (e .capacity))) (bytes-devices ds)
-
-bytes-intervals : (x : ℕ) (rs : List (Run ℕ)) → Bytes (intervalBytes x rs)
-bytes-intervals x [] = bytes-nil
-bytes-intervals x ((n of d) ∷ rs) =
-    bytes-join (bytes 4 x ++ bytes 2 d) (intervalBytes (x + n) rs)
-    (bytes-join (bytes 4 x) (bytes 2 d) (bytes-bytes 4 x) (bytes-bytes 2 d)) (bytes-intervals (x + n) rs)
-
-bytes-head : (R M n q : ℕ) → Bytes (head R M n q)
-bytes-head R M n q =
-    more (bytes 3 mark ++ bytes 2 version ++ bytes 8 R ++ bytes 2 M ++ bytes 2 n) 2 q
-    (more (bytes 3 mark ++ bytes 2 version ++ bytes 8 R ++ bytes 2 M) 2 n
-    (more (bytes 3 mark ++ bytes 2 version ++ bytes 8 R) 2 M
-    (more (bytes 3 mark ++ bytes 2 version) 8 R (more (bytes 3 mark) 2 version (bytes-bytes 3 mark)))))
-  where
-    more : (xs : List ℕ) (k x : ℕ) → Bytes xs → Bytes (xs ++ bytes k x)
-    more xs k x h = bytes-join xs (bytes k x) h (bytes-bytes k x)
-
-pub bytes-imageOf : (s : State) → Bytes (imageOf s)
-unfolding imageOf
-bytes-imageOf s =
-    bytes-join (top ++ deviceBytes (s .devices)) (intervalBytes 0 (s .table))
-    (bytes-join top (deviceBytes (s .devices)) (bytes-head (s .range) (s .limit) (length (s .devices)) (length (s .table))) (bytes-devices (s .devices)))
-    (bytes-intervals 0 (s .table))
-  where
-    top : List ℕ
-    top = head (s .range) (s .limit) (length (s .devices)) (length (s .table))
 
 -- ---- an image is the image of its state
 

@@ -6,11 +6,11 @@ use crate::numbers::put2;
 use crate::numbers::put4;
 ghost use mathlib.Core.Path.{_≡_};
 ghost use mathlib.Core.List.{_++_};
-ghost use Prim.Native.Nat.{_*_, _≤_, _<_};
-ghost use lib.ListN.{length, drop};
+ghost use Prim.Native.Nat.{_+_, _*_, _≤_};
+ghost use lib.ListN.{length, take, drop};
 ghost use Rattle.placement.specs.Pools.{padded};
 ghost use Rattle.images.specs.Format.{column};
-ghost use Rattle.images.specs.RowBytes.{pairBytes};
+ghost use Rattle.images.specs.RowBytes.{pairBytes, rowBytes, rowsBytes};
 
 // The columns of the device rows, and zeros.
 pub struct DeviceColumns {
@@ -24,6 +24,29 @@ pub struct IntervalColumns {
     pub owners: [u16; 4096],
 }
 
+// Reads n rows into two arrays. In each row a number in two bytes begins at place short, one in four
+// bytes at place long.
+fn read_columns(
+    rows: &[u8],
+    n: usize,
+    shorts: &mut [u16],
+    short: usize,
+    longs: &mut [u32],
+    long: usize,
+)
+    requires { ⌜ (6 * n ≤ length (now rows)) × (n ≤ length (now shorts)) × (n ≤ length (now longs)) × (short + 2 ≤ 6) × (long + 4 ≤ 6) ⌝ }
+    ensures shorts { λ r. ⌜ now (shorts .exit) ≡ column (now (rows .entry)) 2 short n ++ drop n (now (shorts .entry)) ⌝ }
+    ensures longs { λ r. ⌜ now (longs .exit) ≡ column (now (rows .entry)) 4 long n ++ drop n (now (longs .entry)) ⌝ }
+{
+    let mut i = 0;
+    while i < n {
+        let row = ROW * i;
+        shorts[i] = number2(rows, row + short) as u16;
+        longs[i] = number4(rows, row + long) as u32;
+        i += 1;
+    }
+}
+
 // Reads n device rows.
 pub fn device_rows(rows: &[u8], n: usize) -> DeviceColumns
     requires { ⌜ (n ≤ 256) × (6 * n ≤ length (now rows)) ⌝ }
@@ -32,13 +55,7 @@ pub fn device_rows(rows: &[u8], n: usize) -> DeviceColumns
 {
     let mut ids = [0u16; 256];
     let mut capacities = [0u32; 256];
-    let mut i = 0;
-    while i < n {
-        let row = ROW * i;
-        ids[i] = number2(rows, row) as u16;
-        capacities[i] = number4(rows, row + 2) as u32;
-        i += 1;
-    }
+    read_columns(rows, n, &mut ids, 0, &mut capacities, 2);
     DeviceColumns {
         ids: ids,
         capacities: capacities,
@@ -53,30 +70,37 @@ pub fn interval_rows(rows: &[u8], q: usize) -> IntervalColumns
 {
     let mut starts = [0u32; 4096];
     let mut owners = [0u16; 4096];
-    let mut i = 0;
-    while i < q {
-        let row = ROW * i;
-        starts[i] = number4(rows, row) as u32;
-        owners[i] = number2(rows, row + 4) as u16;
-        i += 1;
-    }
+    read_columns(rows, q, &mut owners, 4, &mut starts, 0);
     IntervalColumns {
         starts: starts,
         owners: owners,
     }
 }
 
-// Numbers that were read from a pool.
-fn wide16(x: u16) -> u64
-    ensures { λ r. ⌜ (r ≡ x) × (r < 65536) ⌝ }
+// Writes a row from place i on: the short number first if leading, else the long one first.
+fn put_row(rows: &mut [u8], i: usize, short: u16, long: u32, leading: bool)
+    requires { ⌜ i + 6 ≤ length (now rows) ⌝ }
+    ensures { λ r. ⌜ now (rows .exit) ≡ take i (now (rows .entry)) ++ rowBytes leading short long ++ drop (i + 6) (now (rows .entry)) ⌝ }
 {
-    x as u64
+    if leading {
+        put2(&mut *rows, i, short as u64);
+        put4(&mut *rows, i + 2, long as u64);
+    } else {
+        put4(&mut *rows, i, long as u64);
+        put2(&mut *rows, i + 4, short as u64);
+    }
 }
 
-fn wide32(x: u32) -> u64
-    ensures { λ r. ⌜ (r ≡ x) × (r < 4294967296) ⌝ }
+// Writes n rows from two arrays, each row as put_row does.
+fn put_columns(rows: &mut [u8], n: usize, shorts: &[u16], longs: &[u32], leading: bool)
+    requires { ⌜ (6 * n ≤ length (now rows)) × (n ≤ length (now shorts)) × (n ≤ length (now longs)) ⌝ }
+    ensures { λ r. ⌜ now (rows .exit) ≡ rowsBytes leading (now (shorts .entry)) (now (longs .entry)) 0 n ++ drop (6 * n) (now (rows .entry)) ⌝ }
 {
-    x as u64
+    let mut i = 0;
+    while i < n {
+        put_row(&mut *rows, ROW * i, shorts[i], longs[i], leading);
+        i += 1;
+    }
 }
 
 // Writes n device rows.
@@ -84,13 +108,7 @@ pub fn put_devices(rows: &mut [u8], ids: &[u16; 256], capacities: &[u32; 256], n
     requires { ⌜ (n ≤ 256) × (6 * n ≤ length (now rows)) ⌝ }
     ensures { λ r. ⌜ now (rows .exit) ≡ pairBytes 2 4 (now (ids .entry)) (now (capacities .entry)) 0 n ++ drop (6 * n) (now (rows .entry)) ⌝ }
 {
-    let mut i = 0;
-    while i < n {
-        let row = ROW * i;
-        put2(&mut *rows, row, wide16(ids[i]));
-        put4(&mut *rows, row + 2, wide32(capacities[i]));
-        i += 1;
-    }
+    put_columns(&mut *rows, n, ids, capacities, true);
 }
 
 // Writes q interval rows.
@@ -98,11 +116,5 @@ pub fn put_intervals(rows: &mut [u8], starts: &[u32; 4096], owners: &[u16; 4096]
     requires { ⌜ (q ≤ 4096) × (6 * q ≤ length (now rows)) ⌝ }
     ensures { λ r. ⌜ now (rows .exit) ≡ pairBytes 4 2 (now (starts .entry)) (now (owners .entry)) 0 q ++ drop (6 * q) (now (rows .entry)) ⌝ }
 {
-    let mut i = 0;
-    while i < q {
-        let row = ROW * i;
-        put4(&mut *rows, row, wide32(starts[i]));
-        put2(&mut *rows, row + 4, wide16(owners[i]));
-        i += 1;
-    }
+    put_columns(&mut *rows, q, owners, starts, false);
 }

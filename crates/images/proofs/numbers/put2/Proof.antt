@@ -6,7 +6,7 @@ use lib.ListN.{take, drop}
 use Rattle.sha1.specs.Fips180.{bytes}
 use native.Mathlib.Omega.{arith}
 use borrow.Author.Needs.{needs}
-use Rattle.images.proofs.Fronts.{put-halves, bytes-halves}
+use Rattle.images.proofs.Fronts.{put-parts, bytes-halves}
 use Rattle.images.proofs.numbers.put2.Statement.{statement}
 use Rattle.images.proofs.numbers.put2.Tie as tie
 
@@ -27,7 +27,7 @@ returns c =
     let first = c .before .before .before .before .before .before in
     let a = first .before .before .before .args in
     let b = a .buffer .now in
-    put-halves b (bytes 1 (a .x / 256)) (bytes 1 (a .x % 256)) _ _ (a .i) 1 refl (omega arith) (first .put1 .ensures) (c .before .before .put12 .ensures)
+    put-parts b (bytes 1 (a .x / 256)) (bytes 1 (a .x % 256)) _ _ (a .i) 1 1 refl (omega arith) (first .put1 .ensures) (c .before .before .put12 .ensures)
     ∙ ap (λ xs. take (a .i) b ++ xs ++ drop (a .i + 2) b) (bytes-halves 1 (a .x))
 
 pub put2-spec : {M : Type 1} → statement M

@@ -1,0 +1,85 @@
+-- `images::rows::put_columns` meets its contract. The loop's invariant: the first i rows are written, and the rest is as it was.
+use mathlib.Core.Path.{_≡_, refl, subst}
+use mathlib.Core.List.{_++_}
+use Prim.Native.Nat.{ℕ, _*_, _-_, _≤_}
+use native.Mathlib.Omega.{arith}
+use lib.ListN.{length, drop}
+use Rattle.images.specs.RowBytes.{rowsBytes}
+use Rattle.images.proofs.Fronts.{rowsBytes-none, rowsBytes-put}
+use Rattle.images.proofs.rows.put_columns.Statement.{statement}
+use Rattle.images.proofs.rows.put_columns.Tie as tie
+
+abbrev Inv-loop : tie.InvT-loop
+Inv-loop rows₀ n shorts longs leading i₀ rows i =
+    (i ≤ n) × (length rows ≡ length rows₀) × (rows ≡ rowsBytes leading shorts longs 0 i ++ drop (6 * i) rows₀)
+
+abbrev μ-loop : tie.MeasureT-loop
+μ-loop rows₀ n shorts longs leading i₀ rows i = n - i
+
+loop-holds : tie.Need-loop-holds Inv-loop μ-loop
+loop-holds c =
+    let a = c .before .before .before .args in
+    (omega arith, refl, rowsBytes-none (a .leading) (a .shorts .now) (a .longs .now) (a .rows .now))
+
+mul-put-row : tie.Need-mul-put-row Inv-loop μ-loop
+mul-put-row c = omega arith
+
+mul-put-row-2 : tie.Need-mul-put-row-2 Inv-loop μ-loop
+mul-put-row-2 c = omega arith
+
+shared-slice-read-put-row : tie.Need-shared-slice-read-put-row Inv-loop μ-loop
+shared-slice-read-put-row c = omega arith
+
+mul-put-row-3 : tie.Need-mul-put-row-3 Inv-loop μ-loop
+mul-put-row-3 c = omega arith
+
+shared-slice-read-put-row-2 : tie.Need-shared-slice-read-put-row-2 Inv-loop μ-loop
+shared-slice-read-put-row-2 c = omega arith
+
+put-row-requires : tie.Need-put-row-requires Inv-loop μ-loop
+put-row-requires c κs = omega arith
+
+add-i : tie.Need-add-i Inv-loop μ-loop
+add-i c = omega arith
+
+loop-less : tie.Need-loop-less Inv-loop μ-loop
+loop-less c = omega arith
+
+loop-again : tie.Need-loop-again Inv-loop μ-loop
+loop-again c =
+    let put = c .before .before in
+    let loop = put .before .before .before .before .before in
+    let a = loop .before .before .before .before .args in (
+      omega (arith, put .before .before .before .before .loop-test .taken),
+      omega (arith, loop .loop .inv .1),
+      rowsBytes-put (a .leading) (a .shorts .now) (a .longs .now) (a .rows .now) _ _ (loop .loop .i) (loop .loop .inv .2) (put .put-row .ensures),
+    )
+
+same-length : tie.Need-same-length Inv-loop μ-loop
+same-length c = c .before .loop .inv .1
+
+returns : tie.Need-returns Inv-loop μ-loop
+returns c =
+    let a = c .before .before .before .before .before .args in
+    let l = c .before .loop in
+    let e : l .i ≡ a .n = omega (arith, l .inv .0, c .loop-test .left) in
+    subst (λ (k : ℕ). l .rows ≡ rowsBytes (a .leading) (a .shorts .now) (a .longs .now) 0 k ++ drop (6 * k) (a .rows .now)) e (l .inv .2)
+
+pub put-columns-spec : {M : Type 1} → statement M
+put-columns-spec =
+    tie.close
+    (tie.spec
+    Inv-loop
+    μ-loop
+    loop-holds
+    mul-put-row
+    mul-put-row-2
+    shared-slice-read-put-row
+    mul-put-row-3
+    shared-slice-read-put-row-2
+    put-row-requires
+    add-i
+    loop-less
+    loop-again
+    same-length
+    returns)

@@ -1,0 +1,105 @@
+-- `images::rows::read_columns` meets its contract. The loop's invariant: both arrays hold the numbers of the first i rows, and are as they were behind.
+use Prim.Native.Nat.{_-_, _≤_}
+use native.Mathlib.Omega.{arith}
+use Rattle.images.proofs.ReadColumns.{Filled, filled-none, filled-more, filled-all}
+use Rattle.images.proofs.rows.read_columns.Statement.{statement}
+use Rattle.images.proofs.rows.read_columns.Tie as tie
+
+abbrev Inv-loop : tie.InvT-loop
+Inv-loop rows n shorts₀ short longs₀ long i₀ shorts longs i =
+    (i ≤ n) × Filled 2 short rows shorts₀ shorts i × Filled 4 long rows longs₀ longs i
+
+abbrev μ-loop : tie.MeasureT-loop
+μ-loop rows n shorts₀ short longs₀ long i₀ shorts longs i = n - i
+
+loop-holds : tie.Need-loop-holds Inv-loop μ-loop
+loop-holds c =
+    let a = c .before .before .before .args in
+    (omega arith, filled-none 2 (a .short) (a .rows .now) (a .shorts .now), filled-none 4 (a .long) (a .rows .now) (a .longs .now))
+
+mul-row : tie.Need-mul-row Inv-loop μ-loop
+mul-row c = omega arith
+
+add-number2 : tie.Need-add-number2 Inv-loop μ-loop
+add-number2 c = omega arith
+
+number2-requires : tie.Need-number2-requires Inv-loop μ-loop
+number2-requires c κs = omega arith
+
+cast-shorts : tie.Need-cast-shorts Inv-loop μ-loop
+cast-shorts c = omega (arith, c .number2 .ensures .1)
+
+mul-shorts : tie.Need-mul-shorts Inv-loop μ-loop
+mul-shorts c = omega arith
+
+slice-write-shorts : tie.Need-slice-write-shorts Inv-loop μ-loop
+slice-write-shorts c = omega arith
+
+add-number4 : tie.Need-add-number4 Inv-loop μ-loop
+add-number4 c = omega arith
+
+number4-requires : tie.Need-number4-requires Inv-loop μ-loop
+number4-requires c κs = omega arith
+
+cast-longs : tie.Need-cast-longs Inv-loop μ-loop
+cast-longs c = omega (arith, c .number4 .ensures .1)
+
+mul-longs : tie.Need-mul-longs Inv-loop μ-loop
+mul-longs c = omega arith
+
+slice-write-longs : tie.Need-slice-write-longs Inv-loop μ-loop
+slice-write-longs c = omega arith
+
+add-i : tie.Need-add-i Inv-loop μ-loop
+add-i c = omega arith
+
+loop-less : tie.Need-loop-less Inv-loop μ-loop
+loop-less c = omega arith
+
+loop-again : tie.Need-loop-again Inv-loop μ-loop
+loop-again c =
+    let turn = c .before .before .before .loop in
+    let a = c .before .before .before .before .before .before .before .args in (
+      omega arith,
+      filled-more 2 (a .short) (a .rows .now) (a .shorts .now) (turn .shorts) (turn .i) _ (omega arith) (turn .inv .1) (c .before .number2 .ensures .0),
+      filled-more 4 (a .long) (a .rows .now) (a .longs .now) (turn .longs) (turn .i) _ (omega arith) (turn .inv .2) (c .number4 .ensures .0),
+    )
+
+same-length : tie.Need-same-length Inv-loop μ-loop
+same-length c = c .before .loop .inv .1 .size
+
+same-length-2 : tie.Need-same-length-2 Inv-loop μ-loop
+same-length-2 c = c .before .loop .inv .2 .size
+
+returns : tie.Need-returns Inv-loop μ-loop
+returns c =
+    let turn = c .before .loop in
+    let a = c .before .before .before .before .before .args in (
+      filled-all 2 (a .short) (a .rows .now) (a .shorts .now) (turn .shorts) (turn .i) (a .n) (omega arith) (turn .inv .1),
+      filled-all 4 (a .long) (a .rows .now) (a .longs .now) (turn .longs) (turn .i) (a .n) (omega arith) (turn .inv .2),
+    )
+
+pub read-columns-spec : {M : Type 1} → statement M
+read-columns-spec =
+    tie.close
+    (tie.spec
+    Inv-loop
+    μ-loop
+    loop-holds
+    mul-row
+    add-number2
+    number2-requires
+    cast-shorts
+    mul-shorts
+    slice-write-shorts
+    add-number4
+    number4-requires
+    cast-longs
+    mul-longs
+    slice-write-longs
+    add-i
+    loop-less
+    loop-again
+    same-length
+    same-length-2
+    returns)
