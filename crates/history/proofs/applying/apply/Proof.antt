@@ -21,20 +21,20 @@ ranged-requires c κs =
 enum-known-id : tie.Need-enum-known-id
 enum-known-id c = search needs
 
-added-requires : tie.Need-added-requires
-added-requires c κs = search needs
+changed-requires : tie.Need-changed-requires
+changed-requires c κs = search needs
 
 enum-known-id-2 : tie.Need-enum-known-id-2
 enum-known-id-2 c = search needs
 
-removed-requires : tie.Need-removed-requires
-removed-requires c κs = search needs
+changed-requires-2 : tie.Need-changed-requires-2
+changed-requires-2 c κs = search needs
 
 enum-known-id-3 : tie.Need-enum-known-id-3
 enum-known-id-3 c = search needs
 
-resized-requires : tie.Need-resized-requires
-resized-requires c κs = search needs
+changed-requires-3 : tie.Need-changed-requires-3
+changed-requires-3 c κs = search needs
 
 enum-known-refusal : tie.Need-enum-known-refusal
 enum-known-refusal c = search needs
@@ -54,21 +54,21 @@ returns-2 c =
     let v = c .before .before in
     let l = v .before .before in
     let a = l .before .before .args in
-    applied-add (a .history) (a .text .now) _ _ _ (sym (l .line .ensures) ∙ v .id .given .1) (c .added .ensures)
+    applied-add (a .history) (a .text .now) _ _ _ (sym (l .line .ensures) ∙ v .id .given .1) (c .changed .ensures)
 
 returns-3 : tie.Need-returns-3
 returns-3 c =
     let v = c .before .before in
     let l = v .before .before in
     let a = l .before .before .args in
-    applied-remove (a .history) (a .text .now) _ _ (sym (l .line .ensures) ∙ v .id2 .given .1) (c .removed .ensures)
+    applied-remove (a .history) (a .text .now) _ _ (sym (l .line .ensures) ∙ v .id2 .given .1) (c .changed2 .ensures)
 
 returns-4 : tie.Need-returns-4
 returns-4 c =
     let v = c .before .before in
     let l = v .before .before in
     let a = l .before .before .args in
-    applied-resize (a .history) (a .text .now) _ _ _ (sym (l .line .ensures) ∙ v .id3 .given .1) (c .resized .ensures)
+    applied-resize (a .history) (a .text .now) _ _ _ (sym (l .line .ensures) ∙ v .id3 .given .1) (c .changed3 .ensures)
 
 returns-5 : tie.Need-returns-5
 returns-5 c =
@@ -85,11 +85,11 @@ apply-spec =
     enum-known-range
     ranged-requires
     enum-known-id
-    added-requires
+    changed-requires
     enum-known-id-2
-    removed-requires
+    changed-requires-2
     enum-known-id-3
-    resized-requires
+    changed-requires-3
     enum-known-refusal
     refused-requires
     returns
