@@ -12,6 +12,7 @@ pub mod PrintedLines
 pub mod HistoryLists
 pub mod AppliedLines
 pub mod ReplayBounds
+pub mod TextParts
 pub mod ReplaySteps
 pub mod Replaying
 pub mod PrintedRows

@@ -12,7 +12,7 @@ ghost use Rattle.placement.specs.Pools.{poolOf};
 ghost use Rattle.placement.specs.Promises.{changeOf};
 ghost use Rattle.slicing.specs.Changes as Changes;
 ghost use Rattle.history.specs.Lines.{farRange};
-ghost use Rattle.history.specs.Promises.{rangedLine, ChangedLine, Applied};
+ghost use Rattle.history.specs.Promises.{rangedLine, ChangedLine, Said, Applied};
 ghost use Rattle.history.specs.Promises.{refused as refusedLine};
 
 // Whether a range line was accepted, and the pool.
@@ -44,7 +44,7 @@ pub struct LineResult {
     pub history: History,
 }
 
-pub fn refused(history: History, refusal: u32) -> LineResult
+fn refused(history: History, refusal: u32) -> LineResult
     ensures { λ r. ⌜ r ≡ refusedLine history refusal ⌝ }
 {
     LineResult {
@@ -81,8 +81,7 @@ fn settled(answer: ChangeAnswer) -> LineResult
 
 // A range line: it comes first, once.
 fn ranged(history: History, range: u64, limit: u64) -> LineResult
-    requires { ⌜ farRange range limit ≡ false ⌝ }
-    ensures { λ r. ⌜ r ≡ rangedLine history range limit ⌝ }
+    ensures { λ r. ⌜ (farRange range limit ≡ false → r ≡ rangedLine history range limit) ⌝ }
 {
     if history.begun {
         return refused(history, 3);
@@ -113,17 +112,24 @@ fn changed(history: History, call: Call) -> LineResult
     settled(placement::changed(pool, call, &mut places))
 }
 
-// A line, without its line end, applied to a history. 1 and 2 as of `line`; 3 for a change line before a
-// range line was accepted, and for a range line after one; then the refusals of the change, with a list
-// of 4,096 places.
-pub fn apply(history: History, text: &[u8]) -> LineResult
-    ensures { λ r. ⌜ Applied history (now (text .entry)) r ⌝ }
+// What a line says, applied to a history.
+pub fn applied(history: History, said: LineAnswer) -> LineResult
+    ensures { λ r. ⌜ Said history said r ⌝ }
 {
-    match line(text) {
+    match said {
         LineAnswer::Range(range, limit) => ranged(history, range, limit),
         LineAnswer::Add(id, capacity) => changed(history, Call::Add(id, capacity)),
         LineAnswer::Remove(id) => changed(history, Call::Remove(id)),
         LineAnswer::Resize(id, capacity) => changed(history, Call::Resize(id, capacity)),
         LineAnswer::Refused(refusal) => refused(history, refusal),
     }
+}
+
+// A line, without its line end, applied to a history. 1 and 2 as of `line`; 3 for a change line before a
+// range line was accepted, and for a range line after one; then the refusals of the change, with a list
+// of 4,096 places.
+pub fn apply(history: History, text: &[u8]) -> LineResult
+    ensures { λ r. ⌜ Applied history (now (text .entry)) r ⌝ }
+{
+    applied(history, line(text))
 }
