@@ -15,5 +15,6 @@ pub mod ReplayBounds
 pub mod TextParts
 pub mod ReplaySteps
 pub mod Replaying
+pub mod PoolsLeft
 pub mod PrintedRows
 pub mod PrintedTables

@@ -1,6 +1,7 @@
 -- One line of the replay: from what the code's line gives to what the definition's line gives.
 --
 --   readingOf h        the reading that a history holds
+--   new-valid, new-reading     of a history before the first line
 --   Given h l r        the result r is that of the line l on the history h, its pool is valid, its numbers are small
 --   given-said         of what a line says, applied
 use mathlib.Core.Path.{_≡_, refl, sym, ap, _∙_, subst}
@@ -22,12 +23,23 @@ use Rattle.history.specs.declared.lines.LineAnswer.{LineAnswer}
 use Rattle.history.specs.declared.lines.LineAnswer.the-variants.{Range, Add, Remove, Resize, Refused}
 use Rattle.history.specs.Lines.{farRange}
 use Rattle.history.specs.Promises.{refused, settledLine, rangedLine, Said}
-use Rattle.history.specs.Replay.{Reading, Result, places, refusal, settled, changed, applied}
+use Rattle.history.specs.Replay.{Reading, start, Result, places, refusal, settled, changed, applied}
 use Rattle.history.proofs.LineLimits.{Fits}
 use Rattle.history.proofs.ReplayBounds.{moved-most, count-most}
 
 abbrev pub readingOf : History → Reading
 readingOf h = record { begun = h .begun; pool = stateOf (h .pool) }
+
+-- before the first line
+module _ (h : History) (e : h ≡ record { begun = false; pool = poolOf (fresh 1 1) }) where
+  one : Valid (fresh 1 1)
+  one = valid-fresh 1 1 (omega arith) (omega arith) (omega arith) (omega arith)
+
+  pub new-valid : ValidPool (h .pool)
+  new-valid = subst (λ (k : History). ValidPool (k .pool)) (sym e) (validPool-poolOf (fresh 1 1) one)
+
+  pub new-reading : readingOf h ≡ start
+  new-reading = ap readingOf e ∙ ap (λ (p : State). record { begun = false; pool = p }) (stateOf-poolOf (fresh 1 1) one)
 
 pub record Given (o : Result) (r : LineResult) : Type 0 where
   pub number : r .refusal ≡ o .number

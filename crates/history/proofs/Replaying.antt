@@ -11,11 +11,8 @@ use native.Mathlib.Omega.{arith}
 use native.Mathlib.Numerals.{add-one}
 use lib.ListN.{length, take, drop, length-append, drop-of-length-le}
 use Rattle.placement.specs.Pools.{stateOf, poolOf, ValidPool}
-use Rattle.placement.proofs.PoolLaws.{stateOf-poolOf, validPool-poolOf}
 use Rattle.placement.proofs.ValidParts.{valid-limited}
 use Rattle.slicing.specs.Changes.{fresh}
-use Rattle.slicing.specs.Validity.{Valid}
-use Rattle.slicing.proofs.Demand3.{valid-fresh}
 use Rattle.slicing_core.proofs.Fronts.{front-put}
 use Rattle.history.specs.declared.applying.History.{History}
 use Rattle.history.specs.declared.applying.LineResult.{LineResult}
@@ -25,7 +22,7 @@ use Rattle.history.specs.Replay.{Reading, applied, fields, printedTable,
 use Rattle.history.specs.Text.{lineEnd, split}
 use Rattle.history.proofs.Decimals.{length-fields4}
 use Rattle.history.proofs.PutBehind.{put-room}
-use Rattle.history.proofs.ReplaySteps.{readingOf, Given, given-said}
+use Rattle.history.proofs.ReplaySteps.{readingOf, new-valid, new-reading, Given, given-said}
 use Rattle.history.proofs.TextParts.{part-fits, part-above, part-within, replay-part}
 
 module _ (text : List ℕ) where
@@ -47,20 +44,17 @@ module _ (text : List ℕ) where
   module _ (out₀ : List ℕ) where
     pub replaying-none : (h : History) → h ≡ record { begun = false; pool = poolOf (fresh 1 1) } → Replaying out₀ h 1 0 0 out₀
     unfolding replayed
-    replaying-none h e = subst (λ (k : History). Replaying out₀ k 1 0 0 out₀) (sym e) (record {
-      valid = validPool-poolOf (fresh 1 1) one;
+    replaying-none h e = record {
+      valid = new-valid h e;
       same = refl;
       done = [];
       size = refl;
       written = refl;
-      whole = ap (λ s. replay (record { begun = false; pool = s }) 1 (split lineEnd text)) (stateOf-poolOf (fresh 1 1) one);
+      whole = ap (λ (g : Reading). replay g 1 (split lineEnd text)) (new-reading h e);
       lines = omega arith;
       room = omega arith;
       within = omega arith;
-    })
-      where
-        one : Valid (fresh 1 1)
-        one = valid-fresh 1 1 (omega arith) (omega arith) (omega arith) (omega arith)
+    }
 
     module _ {h : History} {line from place : ℕ} {out : List ℕ} (w : Replaying out₀ h line from place out) where
       module _ (p : Part) (e : p ≡ partAt text from) (l : from < length text) (t : length text ≤ 65536) (o : 3145728 ≤ length out₀) (r : LineResult)

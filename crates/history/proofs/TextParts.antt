@@ -3,7 +3,7 @@
 --   part-ended, part-unended   a line with a line end behind it, and one without
 --   part-fits           what it says is within its limits
 --   part-above, part-within    the next one starts behind its place, within the text
---   replay-part         the replay from its place on is the line's and then that of the rest
+--   replay-part, readAll-part  the replay, and the reading, from its place on are the line's and then those of the rest
 use mathlib.Core.Path.{_≡_, refl, sym, ap, _∙_, subst}
 use mathlib.Core.Bool.{Bool, true, false, cond}
 use mathlib.Core.List.{List, [], _∷_, _++_}
@@ -17,6 +17,7 @@ use Rattle.history.specs.declared.lines.LineAnswer.{LineAnswer}
 use Rattle.history.specs.declared.lines.LineAnswer.the-variants.{Refused}
 use Rattle.history.specs.declared.lines.Part.{Part}
 use Rattle.history.specs.Cuts.{cutAt}
+use Rattle.history.specs.Histories.{allButLast, linesOf, readAll}
 use Rattle.history.specs.Lines.{lineIn}
 use Rattle.history.specs.Promises.{partAt}
 use Rattle.history.specs.Replay.{Reading, refusal, applied, printedLine, printedTable, replay}
@@ -24,7 +25,7 @@ use Rattle.history.specs.Text.{lineEnd, split}
 use Rattle.history.proofs.LineLimits.{Fits, shapeless, lineIn-fits}
 use Rattle.history.proofs.ReplayLaws.{replay-cons}
 use Rattle.history.proofs.Splitting.{cutAt-below, split-whole, split-cut}
-use Rattle.history.proofs.TextLines.{parts-some}
+use Rattle.history.proofs.TextLines.{parts-some, allButLast-cons}
 
 module _ (xs : List ℕ) (n : ℕ) where
   abbrev rest : List ℕ
@@ -91,3 +92,12 @@ module _ (xs : List ℕ) (n : ℕ) where
           last : (ys : List ℕ) → 1 ≤ length ys → replay h m (ys ∷ []) ≡ printedLine m (refusal h 1) ++ printedTable (h .pool)
           last [] k = absurd (omega arith)
           last (y ∷ ys) k = refl
+
+      pub readAll-part : (h : Reading) → readAll h (linesOf (drop n xs)) ≡ readAll (applied h (p .said) .after) (linesOf (drop (p .next) xs))
+      readAll-part h =
+          cases (λ k. readAll h (linesOf rest) ≡ readAll (applied h (k .said) .after) (linesOf (drop (k .next) xs)))
+          (λ b. ap (readAll h)
+          (ap allButLast (split-cut lineEnd rest b)
+          ∙ allButLast-cons (take end rest) (split lineEnd (drop (end + 1) rest)) (parts-some lineEnd (drop (end + 1) rest)))
+          ∙ ap (λ ys. readAll (applied h (ended .said) .after) (linesOf ys)) behind)
+          (λ b. ap (λ ps. readAll h (allButLast ps)) (split-whole lineEnd rest b) ∙ ap (λ ys. readAll h (linesOf ys)) nothing)

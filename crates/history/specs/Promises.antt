@@ -7,6 +7,7 @@
 --   Applied h xs r        r answers the line xs on the history h
 --   partAt xs n           the line of the text xs from place n on: what it says, and where the next one starts
 --   Transcribed xs ..     the answer of a transcript of the text xs, and the buffer afterwards
+--   Left xs r             r answers the call for the pool that the text xs leaves
 use mathlib.Core.Path.{_≡_}
 use mathlib.Core.Bool.{true, false, cond}
 use mathlib.Core.List.{List, _++_}
@@ -14,6 +15,7 @@ use Prim.Native.Nat.{ℕ, _+_}
 use lib.Dec.{ltb}
 use lib.ListN.{length, take, drop}
 use Rattle.placement.specs.Pools.{stateOf, poolOf, ValidPool}
+use Rattle.placement.specs.declared.PoolAnswer.{PoolAnswer}
 use Rattle.slicing.specs.Changes.{fresh, Change, add, remove, resize, Outcome, change}
 use Rattle.history.specs.declared.applying.History.{History}
 use Rattle.history.specs.declared.applying.LineResult.{LineResult}
@@ -23,8 +25,9 @@ use Rattle.history.specs.declared.lines.Part.{Part}
 use Rattle.history.specs.declared.transcripts.TranscriptAnswer.{TranscriptAnswer}
 use Rattle.history.specs.declared.transcripts.TranscriptAnswer.the-variants as Answer
 use Rattle.history.specs.Cuts.{cutAt}
+use Rattle.history.specs.Histories.{poolAfter}
 use Rattle.history.specs.Lines.{farRange, lineIn}
-use Rattle.history.specs.Replay.{places, transcript}
+use Rattle.history.specs.Replay.{places, maxText, transcript}
 use Rattle.history.specs.Text.{lineEnd}
 
 abbrev pub refused : History → ℕ → LineResult
@@ -79,3 +82,7 @@ room = 3145728
 pub record Transcribed (xs before : List ℕ) (r : TranscriptAnswer) (after : List ℕ) : Type 0 where
   pub answer : r ≡ cond (ltb (length before) room) (Answer.Refused 17) (Answer.Printed (length (transcript xs)))
   pub buffer : after ≡ cond (ltb (length before) room) before (transcript xs ++ drop (length (transcript xs)) before)
+
+-- the pool that a text leaves; more than 65,536 bytes are refused with 2, and a refused call that makes a pool gives a fresh one with R = 1 and M = 1
+abbrev pub Left : List ℕ → PoolAnswer → Type 0
+Left xs r = r ≡ cond (ltb maxText (length xs)) (record { refusal = 2; pool = poolOf (fresh 1 1) }) (record { refusal = 0; pool = poolOf (poolAfter xs) })

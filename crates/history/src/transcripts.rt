@@ -20,7 +20,7 @@ ghost use Rattle.history.specs.Replay.{printedTable, replayed};
 pub const ROOM: usize = 3145728;
 
 // The most bytes of a history.
-const LONGEST: usize = 65536;
+pub const LONGEST: usize = 65536;
 
 // The answer of a transcript: how many bytes were printed.
 pub enum TranscriptAnswer {
