@@ -4,28 +4,28 @@
 --   line-begun, line-before   a change line after and before a range line
 --   fresh-inside       the fresh pool of numbers within their limits
 --   ranged-after, ranged-first   a range line after and before another
---   applied-refused, applied-range, applied-add, applied-remove, applied-resize   by what the line says
---   part-line, part-open   the first part of a text, with and without a line end
-use mathlib.Core.Path.{_≡_, refl, ap, _∙_}
+--   said-refused, said-as, said-applied   what a line says, applied, answers the line
+use mathlib.Core.Path.{_≡_, refl, sym, ap, _∙_, subst}
 use mathlib.Core.Bool.{true, false}
 use mathlib.Core.List.{List, _∷_}
-use Prim.Native.Nat.{ℕ, zero, suc, _*_, _≤_, _<_}
+use Prim.Native.Nat.{ℕ, zero, suc, _*_}
 use native.Mathlib.Omega.{arith}
-use lib.ListN.{length, replicate, take}
-use borrow.Author.Tests.{lt-ltb, le-ltb}
-use Rattle.placement.specs.Pools.{stateOf, poolOf}
+use lib.ListN.{replicate}
+use Rattle.placement.specs.Pools.{stateOf, poolOf, ValidPool}
 use Rattle.placement.specs.Promises.{movesIn, Fresh, Answered, Changed}
 use Rattle.placement.specs.declared.ChangeAnswer.{ChangeAnswer}
 use Rattle.placement.specs.declared.PoolAnswer.{PoolAnswer}
-use Rattle.slicing.specs.Changes.{fresh, Change, add, remove, resize, change}
+use Rattle.slicing.specs.Changes.{fresh, Change, change}
 use Rattle.slicing.specs.Changes.{refused as refusal}
 use Rattle.slicing.specs.SixSteps.{move}
 use Rattle.history.specs.declared.applying.History.{History}
 use Rattle.history.specs.declared.applying.LineResult.{LineResult}
+use Rattle.history.specs.declared.lines.LineAnswer.{LineAnswer}
 use Rattle.history.specs.declared.lines.LineAnswer.the-variants.{Range, Add, Remove, Resize, Refused}
 use Rattle.history.specs.Lines.{farRange, lineIn}
-use Rattle.history.specs.Promises.{refused, settledLine, rangedLine, ChangedLine, Applied, PartApplied}
+use Rattle.history.specs.Promises.{refused, settledLine, rangedLine, appliedLine, ChangedLine, Said, Applied}
 use Rattle.history.specs.Replay.{places}
+use Rattle.history.proofs.LineLimits.{Fits, lineIn-fits}
 
 movesIn-four : (n : ℕ) → movesIn (replicate (4 * n) 0) ≡ replicate n (move 0 0 0 0)
 movesIn-four zero = refl
@@ -72,27 +72,26 @@ ranged-first h R M a e f b = rw (b, fresh-inside R M a e f)
 
 -- ---- what the line says decides
 
-module _ (h : History) (xs : List ℕ) (r : LineResult) where
-  pub applied-refused : (n : ℕ) → lineIn xs ≡ Refused n → r ≡ refused h n → Applied h xs r
-  applied-refused n l e = record { valid = λ v. e ∙ rw l; invalid = λ v. e ∙ rw l }
+pub said-refused : (h : History) {l : LineAnswer} (n : ℕ) → l ≡ Refused n → Said h l (refused h n)
+said-refused h n e = subst (λ (l : LineAnswer). Said h l (refused h n)) (sym e) refl
 
-  pub applied-range : (R M : ℕ) → lineIn xs ≡ Range R M → r ≡ rangedLine h R M → Applied h xs r
-  applied-range R M l e = record { valid = λ v. e ∙ rw l; invalid = λ v. e ∙ rw l }
+module _ (h : History) (r : LineResult) where
+  pub said-as : {l m : LineAnswer} → l ≡ m → Said h m r → Said h l r
+  said-as e = subst (λ (l : LineAnswer). Said h l r) (sym e)
 
-  pub applied-add : (d c : ℕ) → lineIn xs ≡ Add d c → ChangedLine h (add d c) r → Applied h xs r
-  applied-add d c l k = record { valid = λ v. rw l (k .valid v); invalid = λ v. rw l (k .invalid v) }
+  whole : (l : LineAnswer) → Fits l → Said h l r → ValidPool (h .pool) → r ≡ appliedLine h (λ k. settledLine (change (stateOf (h .pool)) places k)) l
+  whole (Refused n) f s v = s
+  whole (Range R M) f s v = s f
+  whole (Add d c) f s v = s .valid v
+  whole (Remove d) f s v = s .valid v
+  whole (Resize d c) f s v = s .valid v
 
-  pub applied-remove : (d : ℕ) → lineIn xs ≡ Remove d → ChangedLine h (remove d) r → Applied h xs r
-  applied-remove d l k = record { valid = λ v. rw l (k .valid v); invalid = λ v. rw l (k .invalid v) }
+  none : (l : LineAnswer) → Fits l → Said h l r → (ValidPool (h .pool) → ⊥) → r ≡ appliedLine h (λ k. refused h 2) l
+  none (Refused n) f s v = s
+  none (Range R M) f s v = s f
+  none (Add d c) f s v = s .invalid v
+  none (Remove d) f s v = s .invalid v
+  none (Resize d c) f s v = s .invalid v
 
-  pub applied-resize : (d c : ℕ) → lineIn xs ≡ Resize d c → ChangedLine h (resize d c) r → Applied h xs r
-  applied-resize d c l k = record { valid = λ v. rw l (k .valid v); invalid = λ v. rw l (k .invalid v) }
-
--- ---- the first part of a text
-
-module _ (h : History) (xs : List ℕ) (n : ℕ) (r : LineResult) where
-  pub part-line : n < length xs → Applied h (take n xs) r → PartApplied h xs n r
-  part-line l a = rw (lt-ltb n (length xs) l) a
-
-  pub part-open : length xs ≤ n → r ≡ refused h 1 → PartApplied h xs n r
-  part-open l e = rw (le-ltb n (length xs) l) e
+  pub said-applied : (xs : List ℕ) → Said h (lineIn xs) r → Applied h xs r
+  said-applied xs s = record { valid = whole (lineIn xs) (lineIn-fits xs) s; invalid = none (lineIn xs) (lineIn-fits xs) s }

@@ -12,7 +12,9 @@ pub mod PrintedLines
 pub mod HistoryLists
 pub mod AppliedLines
 pub mod ReplayBounds
+pub mod TextParts
 pub mod ReplaySteps
 pub mod Replaying
+pub mod PoolsLeft
 pub mod PrintedRows
 pub mod PrintedTables

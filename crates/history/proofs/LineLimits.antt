@@ -1,8 +1,8 @@
 -- The numbers of a line that is read are within their limits.
 --
---   line-fits          those of a range line
---   add-fits, remove-fits, resize-fits   those of the change lines
---   refused-fits       a line that is not read is refused with 1 or 2
+--   Fits l             what a line says is within its limits; a line that is not read is refused with 1 or 2
+--   shapeless, lineIn-fits    a refusal with 1, and every line
+--   line-fits, refused-fits   range lines, and lines that are not read
 --   range-limits       the limits of a range line, one by one
 use mathlib.Core.Path.{_≡_, refl, subst}
 use mathlib.Core.Bool.{Bool, true, false, cond}
@@ -19,14 +19,14 @@ use Rattle.history.specs.Lines.{rangeWord, addWord, removeWord, resizeWo
 use Rattle.history.specs.Text.{space, split, numberIn, capacityIn}
 
 -- a line within its limits
-abbrev Fits : LineAnswer → Type 0
+abbrev pub Fits : LineAnswer → Type 0
 Fits (Refused n) = (1 ≤ n) × (n ≤ 2)
 Fits (Range R M) = farRange R M ≡ false
 Fits (Add d c) = farDevice d c ≡ false
 Fits (Remove d) = outside maxId d ≡ false
 Fits (Resize d c) = farDevice d c ≡ false
 
-shapeless : Fits (Refused 1)
+pub shapeless : Fits (Refused 1)
 shapeless = (omega arith, omega arith)
 
 either : (t : Bool) (l m : LineAnswer) → Fits l → Fits m → Fits (cond t l m)
@@ -56,24 +56,15 @@ words-fit (k ∷ a ∷ b ∷ []) =
     (either (same k resizeWord) _ _ (pair-fits Resize farDevice (λ d c e. e) (numberIn a) (capacityIn b)) shapeless))
 words-fit (k ∷ a ∷ b ∷ c ∷ ws) = shapeless
 
-fits : (xs : List ℕ) → Fits (lineIn xs)
+pub lineIn-fits : (xs : List ℕ) → Fits (lineIn xs)
 unfolding lineIn
-fits xs = words-fit (split space xs)
+lineIn-fits xs = words-fit (split space xs)
 
 pub line-fits : (xs : List ℕ) (R M : ℕ) → lineIn xs ≡ Range R M → farRange R M ≡ false
-line-fits xs R M e = subst Fits e (fits xs)
-
-pub add-fits : (xs : List ℕ) (d c : ℕ) → lineIn xs ≡ Add d c → farDevice d c ≡ false
-add-fits xs d c e = subst Fits e (fits xs)
-
-pub remove-fits : (xs : List ℕ) (d : ℕ) → lineIn xs ≡ Remove d → outside maxId d ≡ false
-remove-fits xs d e = subst Fits e (fits xs)
-
-pub resize-fits : (xs : List ℕ) (d c : ℕ) → lineIn xs ≡ Resize d c → farDevice d c ≡ false
-resize-fits xs d c e = subst Fits e (fits xs)
+line-fits xs R M e = subst Fits e (lineIn-fits xs)
 
 pub refused-fits : (xs : List ℕ) (n : ℕ) → lineIn xs ≡ Refused n → (1 ≤ n) × (n ≤ 2)
-refused-fits xs n e = subst Fits e (fits xs)
+refused-fits xs n e = subst Fits e (lineIn-fits xs)
 
 pub range-limits : (R M : ℕ) → farRange R M ≡ false → (1 ≤ R) × (R ≤ maxRange) × (1 ≤ M) × (M ≤ maxLimit)
 range-limits R M e =

@@ -1,11 +1,11 @@
 -- One line of the replay: from what the code's line gives to what the definition's line gives.
 --
 --   readingOf h        the reading that a history holds
+--   new-valid, new-reading     of a history before the first line
 --   Given h l r        the result r is that of the line l on the history h, its pool is valid, its numbers are small
---   given-line, given-refused   of a line that was applied, and of one that is refused
+--   given-said         of what a line says, applied
 use mathlib.Core.Path.{_≡_, refl, sym, ap, _∙_, subst}
 use mathlib.Core.Bool.{Bool, true, false, cond}
-use mathlib.Core.List.{List}
 use Prim.Native.Nat.{ℕ, _≤_}
 use native.Mathlib.Omega.{arith}
 use lib.ListN.{length-replicate}
@@ -21,14 +21,25 @@ use Rattle.history.specs.declared.applying.History.{History}
 use Rattle.history.specs.declared.applying.LineResult.{LineResult}
 use Rattle.history.specs.declared.lines.LineAnswer.{LineAnswer}
 use Rattle.history.specs.declared.lines.LineAnswer.the-variants.{Range, Add, Remove, Resize, Refused}
-use Rattle.history.specs.Lines.{farRange, lineIn}
-use Rattle.history.specs.Promises.{refused, settledLine, rangedLine, appliedLine, Applied}
-use Rattle.history.specs.Replay.{Reading, Result, places, refusal, settled, changed, applied}
-use Rattle.history.proofs.LineLimits.{line-fits}
+use Rattle.history.specs.Lines.{farRange}
+use Rattle.history.specs.Promises.{refused, settledLine, rangedLine, Said}
+use Rattle.history.specs.Replay.{Reading, start, Result, places, refusal, settled, changed, applied}
+use Rattle.history.proofs.LineLimits.{Fits}
 use Rattle.history.proofs.ReplayBounds.{moved-most, count-most}
 
 abbrev pub readingOf : History → Reading
 readingOf h = record { begun = h .begun; pool = stateOf (h .pool) }
+
+-- before the first line
+module _ (h : History) (e : h ≡ record { begun = false; pool = poolOf (fresh 1 1) }) where
+  one : Valid (fresh 1 1)
+  one = valid-fresh 1 1 (omega arith) (omega arith) (omega arith) (omega arith)
+
+  pub new-valid : ValidPool (h .pool)
+  new-valid = subst (λ (k : History). ValidPool (k .pool)) (sym e) (validPool-poolOf (fresh 1 1) one)
+
+  pub new-reading : readingOf h ≡ start
+  new-reading = ap readingOf e ∙ ap (λ (p : State). record { begun = false; pool = p }) (stateOf-poolOf (fresh 1 1) one)
 
 pub record Given (o : Result) (r : LineResult) : Type 0 where
   pub number : r .refusal ≡ o .number
@@ -41,7 +52,7 @@ pub record Given (o : Result) (r : LineResult) : Type 0 where
 
 module _ (h : History) (v : ValidPool (h .pool)) where
   -- a refused line
-  pub given-refused : (n : ℕ) (r : LineResult) → r ≡ refused h n → Given (refusal (readingOf h) n) r
+  given-refused : (n : ℕ) (r : LineResult) → r ≡ refused h n → Given (refusal (readingOf h) n) r
   given-refused n r e =
       subst (Given (refusal (readingOf h) n)) (sym e)
       (record { number = refl; moved = refl; count = refl; after = refl; valid = v; few = omega arith; fits = omega arith })
@@ -101,13 +112,9 @@ module _ (h : History) (v : ValidPool (h .pool)) where
         fits = omega arith;
       }
 
-  pub given-line : (xs : List ℕ) (r : LineResult) → Applied h xs r → Given (applied (readingOf h) (lineIn xs)) r
-  given-line xs r a = go (lineIn xs) refl (a .valid v)
-    where
-      go : (l : LineAnswer) → lineIn xs ≡ l → r ≡ appliedLine h (λ k. settledLine (change (stateOf (h .pool)) places k)) l
-          → Given (applied (readingOf h) l) r
-      go (Refused n) e i = given-refused n r i
-      go (Range R M) e i = given-range R M (line-fits xs R M e) r i
-      go (Add d c) e i = given-change (add d c) r i
-      go (Remove d) e i = given-change (remove d) r i
-      go (Resize d c) e i = given-change (resize d c) r i
+  pub given-said : (l : LineAnswer) (r : LineResult) → Fits l → Said h l r → Given (applied (readingOf h) l) r
+  given-said (Refused n) r f s = given-refused n r s
+  given-said (Range R M) r f s = given-range R M f r (s f)
+  given-said (Add d c) r f s = given-change (add d c) r (s .valid v)
+  given-said (Remove d) r f s = given-change (remove d) r (s .valid v)
+  given-said (Resize d c) r f s = given-change (resize d c) r (s .valid v)

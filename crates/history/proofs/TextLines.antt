@@ -1,7 +1,7 @@
 -- The lines of a text.
 --
 -- parts: parts-some (a text has a part), split-join (two texts with the byte between), split-length
--- lines: lines-ended, lines-join, parts-join, parts-complete, complete-join (texts that end in a line end), parts-last (any text)
+-- lines: allButLast-cons, lines-ended, lines-join, parts-join, parts-complete, complete-join (texts that end in a line end), parts-last (any text)
 -- the text of lines: text-lines (a text is its lines and what stands behind the last line end), lines-whole (no line has a line end in
 -- it), lines-textOf (such lines are the lines of their text)
 -- their number: lines-length (as many complete lines as line ends), lineCount-text, lineCount-complete
@@ -60,7 +60,7 @@ split-length s (b ∷ bs) = rw (eqb-sym s b) (go (eqb b s) (split-length s bs))
 
 -- ---- lines
 
-allButLast-cons : (p : List ℕ) (ps : List (List ℕ)) → 1 ≤ length ps → allButLast (p ∷ ps) ≡ p ∷ allButLast ps
+pub allButLast-cons : (p : List ℕ) (ps : List (List ℕ)) → 1 ≤ length ps → allButLast (p ∷ ps) ≡ p ∷ allButLast ps
 allButLast-cons p [] h = absurd (omega arith)
 allButLast-cons p (q ∷ ps) h = refl
 

@@ -2,5 +2,5 @@ pub mod Cuts
 pub mod Text
 pub mod Lines
 pub mod Replay
-pub mod Promises
 pub mod Histories
+pub mod Promises

@@ -3,24 +3,32 @@
 --   settledLine ..        the result of a change line, from an outcome of the rules
 --   rangedLine, appliedLine h f l   the result of a line, f answering the changes
 --   ChangedLine h k r     r answers the change line k on the history h
+--   Said h l r            r answers a line that says l on the history h
 --   Applied h xs r        r answers the line xs on the history h
+--   partAt xs n           the line of the text xs from place n on: what it says, and where the next one starts
 --   Transcribed xs ..     the answer of a transcript of the text xs, and the buffer afterwards
+--   Left xs r             r answers the call for the pool that the text xs leaves
 use mathlib.Core.Path.{_≡_}
-use mathlib.Core.Bool.{Bool, true, false, cond}
+use mathlib.Core.Bool.{true, false, cond}
 use mathlib.Core.List.{List, _++_}
-use Prim.Native.Nat.{ℕ}
+use Prim.Native.Nat.{ℕ, _+_}
 use lib.Dec.{ltb}
 use lib.ListN.{length, take, drop}
 use Rattle.placement.specs.Pools.{stateOf, poolOf, ValidPool}
+use Rattle.placement.specs.declared.PoolAnswer.{PoolAnswer}
 use Rattle.slicing.specs.Changes.{fresh, Change, add, remove, resize, Outcome, change}
 use Rattle.history.specs.declared.applying.History.{History}
 use Rattle.history.specs.declared.applying.LineResult.{LineResult}
 use Rattle.history.specs.declared.lines.LineAnswer.{LineAnswer}
 use Rattle.history.specs.declared.lines.LineAnswer.the-variants.{Range, Add, Remove, Resize, Refused}
+use Rattle.history.specs.declared.lines.Part.{Part}
 use Rattle.history.specs.declared.transcripts.TranscriptAnswer.{TranscriptAnswer}
 use Rattle.history.specs.declared.transcripts.TranscriptAnswer.the-variants as Answer
-use Rattle.history.specs.Lines.{lineIn}
-use Rattle.history.specs.Replay.{places, transcript}
+use Rattle.history.specs.Cuts.{cutAt}
+use Rattle.history.specs.Histories.{poolAfter}
+use Rattle.history.specs.Lines.{farRange, lineIn}
+use Rattle.history.specs.Replay.{places, maxText, transcript}
+use Rattle.history.specs.Text.{lineEnd}
 
 abbrev pub refused : History → ℕ → LineResult
 refused h n = record { refusal = n; moved = 0; count = 0; history = h }
@@ -47,17 +55,24 @@ pub record ChangedLine (h : History) (k : Change) (r : LineResult) : Type 0 wher
   pub valid : ValidPool (h .pool) → r ≡ cond (h .begun) (settledLine (change (stateOf (h .pool)) places k)) (refused h 3)
   pub invalid : (ValidPool (h .pool) → ⊥) → r ≡ cond (h .begun) (refused h 2) (refused h 3)
 
+-- what a line says, with a range within its limits
+abbrev pub Said : History → LineAnswer → LineResult → Type 0
+Said h (Refused n) r = r ≡ refused h n
+Said h (Range R M) r = farRange R M ≡ false → r ≡ rangedLine h R M
+Said h (Add d c) r = ChangedLine h (add d c) r
+Said h (Remove d) r = ChangedLine h (remove d) r
+Said h (Resize d c) r = ChangedLine h (resize d c) r
+
 pub record Applied (h : History) (xs : List ℕ) (r : LineResult) : Type 0 where
   pub valid : ValidPool (h .pool) → r ≡ appliedLine h (λ k. settledLine (change (stateOf (h .pool)) places k)) (lineIn xs)
   pub invalid : (ValidPool (h .pool) → ⊥) → r ≡ appliedLine h (λ k. refused h 2) (lineIn xs)
 
--- the first part of a text that is cut at n: a line, or what has no line end
-abbrev pub PartOf : History → List ℕ → ℕ → Bool → LineResult → Type 0
-PartOf h xs n true r = Applied h (take n xs) r
-PartOf h xs n false r = r ≡ refused h 1
-
-abbrev pub PartApplied : History → List ℕ → ℕ → LineResult → Type 0
-PartApplied h xs n r = PartOf h xs n (ltb n (length xs)) r
+-- the line of a text from place n on. 'A last line with no line end is a line and is refused with 1.'
+abbrev pub partAt : List ℕ → ℕ → Part
+partAt xs n =
+    let rest = drop n xs in
+    let end = cutAt lineEnd rest in
+    cond (ltb end (length rest)) (record { said = lineIn (take end rest); next = n + end + 1 }) (record { said = Refused 1; next = length xs })
 
 -- the room that every transcript fits in: 44 bytes for each of 65,536 lines, 33 for each of 4,096 intervals, 6 for `table`
 abbrev pub room : ℕ
@@ -67,3 +82,7 @@ room = 3145728
 pub record Transcribed (xs before : List ℕ) (r : TranscriptAnswer) (after : List ℕ) : Type 0 where
   pub answer : r ≡ cond (ltb (length before) room) (Answer.Refused 17) (Answer.Printed (length (transcript xs)))
   pub buffer : after ≡ cond (ltb (length before) room) before (transcript xs ++ drop (length (transcript xs)) before)
+
+-- the pool that a text leaves; more than 65,536 bytes are refused with 2, and a refused call that makes a pool gives a fresh one with R = 1 and M = 1
+abbrev pub Left : List ℕ → PoolAnswer → Type 0
+Left xs r = r ≡ cond (ltb maxText (length xs)) (record { refusal = 2; pool = poolOf (fresh 1 1) }) (record { refusal = 0; pool = poolOf (poolAfter xs) })

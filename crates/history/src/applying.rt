@@ -1,19 +1,18 @@
 // One line of a history, applied.
 use crate::lines::LineAnswer;
 use crate::lines::line;
+use placement::Call;
 use placement::ChangeAnswer;
 use placement::Pool;
-use placement::add;
 use placement::fresh;
-use placement::remove;
-use placement::resize;
 ghost use mathlib.Core.Path.{_≡_};
 ghost use mathlib.Core.Bool.{true, false};
 ghost use lib.ListN.{replicate};
 ghost use Rattle.placement.specs.Pools.{poolOf};
+ghost use Rattle.placement.specs.Promises.{changeOf};
 ghost use Rattle.slicing.specs.Changes as Changes;
 ghost use Rattle.history.specs.Lines.{farRange};
-ghost use Rattle.history.specs.Promises.{rangedLine, ChangedLine, Applied};
+ghost use Rattle.history.specs.Promises.{rangedLine, ChangedLine, Said, Applied};
 ghost use Rattle.history.specs.Promises.{refused as refusedLine};
 
 // Whether a range line was accepted, and the pool.
@@ -45,7 +44,7 @@ pub struct LineResult {
     pub history: History,
 }
 
-pub fn refused(history: History, refusal: u32) -> LineResult
+fn refused(history: History, refusal: u32) -> LineResult
     ensures { λ r. ⌜ r ≡ refusedLine history refusal ⌝ }
 {
     LineResult {
@@ -82,8 +81,7 @@ fn settled(answer: ChangeAnswer) -> LineResult
 
 // A range line: it comes first, once.
 fn ranged(history: History, range: u64, limit: u64) -> LineResult
-    requires { ⌜ farRange range limit ≡ false ⌝ }
-    ensures { λ r. ⌜ r ≡ rangedLine history range limit ⌝ }
+    ensures { λ r. ⌜ (farRange range limit ≡ false → r ≡ rangedLine history range limit) ⌝ }
 {
     if history.begun {
         return refused(history, 3);
@@ -102,37 +100,29 @@ fn ranged(history: History, range: u64, limit: u64) -> LineResult
     }
 }
 
-fn added(history: History, id: u64, capacity: u64) -> LineResult
-    ensures { λ r. ⌜ ChangedLine history (Changes.add id capacity) r ⌝ }
+// A change line: a range line comes before it.
+fn changed(history: History, call: Call) -> LineResult
+    ensures { λ r. ⌜ ChangedLine history (changeOf call) r ⌝ }
 {
     if !history.begun {
         return refused(history, 3);
     }
     let pool = history.pool;
     let mut places = list();
-    settled(add(pool, id, capacity, &mut places))
+    settled(placement::changed(pool, call, &mut places))
 }
 
-fn removed(history: History, id: u64) -> LineResult
-    ensures { λ r. ⌜ ChangedLine history (Changes.remove id) r ⌝ }
+// What a line says, applied to a history.
+pub fn applied(history: History, said: LineAnswer) -> LineResult
+    ensures { λ r. ⌜ Said history said r ⌝ }
 {
-    if !history.begun {
-        return refused(history, 3);
+    match said {
+        LineAnswer::Range(range, limit) => ranged(history, range, limit),
+        LineAnswer::Add(id, capacity) => changed(history, Call::Add(id, capacity)),
+        LineAnswer::Remove(id) => changed(history, Call::Remove(id)),
+        LineAnswer::Resize(id, capacity) => changed(history, Call::Resize(id, capacity)),
+        LineAnswer::Refused(refusal) => refused(history, refusal),
     }
-    let pool = history.pool;
-    let mut places = list();
-    settled(remove(pool, id, &mut places))
-}
-
-fn resized(history: History, id: u64, capacity: u64) -> LineResult
-    ensures { λ r. ⌜ ChangedLine history (Changes.resize id capacity) r ⌝ }
-{
-    if !history.begun {
-        return refused(history, 3);
-    }
-    let pool = history.pool;
-    let mut places = list();
-    settled(resize(pool, id, capacity, &mut places))
 }
 
 // A line, without its line end, applied to a history. 1 and 2 as of `line`; 3 for a change line before a
@@ -141,11 +131,5 @@ fn resized(history: History, id: u64, capacity: u64) -> LineResult
 pub fn apply(history: History, text: &[u8]) -> LineResult
     ensures { λ r. ⌜ Applied history (now (text .entry)) r ⌝ }
 {
-    match line(text) {
-        LineAnswer::Range(range, limit) => ranged(history, range, limit),
-        LineAnswer::Add(id, capacity) => added(history, id, capacity),
-        LineAnswer::Remove(id) => removed(history, id),
-        LineAnswer::Resize(id, capacity) => resized(history, id, capacity),
-        LineAnswer::Refused(refusal) => refused(history, refusal),
-    }
+    applied(history, line(text))
 }

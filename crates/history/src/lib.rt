@@ -3,6 +3,7 @@
 mod applying;
 mod lines;
 mod numbers;
+mod pools;
 mod printing;
 mod transcripts;
 
@@ -13,6 +14,7 @@ pub use lines::LineAnswer;
 pub use lines::line;
 pub use numbers::CapacityAnswer;
 pub use numbers::capacity;
+pub use pools::pool_after;
 pub use transcripts::ROOM;
 pub use transcripts::TranscriptAnswer;
 pub use transcripts::transcript;

@@ -5,9 +5,12 @@ use crate::numbers::capacity;
 use crate::numbers::find;
 use crate::numbers::number;
 ghost use mathlib.Core.Path.{_≡_};
+ghost use Prim.Native.Nat.{_≤_};
+ghost use lib.ListN.{length};
 ghost use Rattle.slicing.specs.Limits as Limits;
 ghost use Rattle.history.specs.Lines as Lines;
 ghost use Rattle.history.specs.Lines.{pairLine, removeLine, farRange, farDevice, threeWords, lineIn};
+ghost use Rattle.history.specs.Promises.{partAt};
 ghost use Rattle.history.specs.Text.{numberIn, capacityIn};
 ghost use Rattle.history.specs.declared.lines.LineAnswer.the-variants.{Range, Add, Resize};
 
@@ -153,4 +156,29 @@ pub fn line(text: &[u8]) -> LineAnswer
         return LineAnswer::Refused(1);
     }
     three_words(&text[..end], &rest[..middle], tail)
+}
+
+// A line of a text: what it says, and where the next one starts.
+pub struct Part {
+    pub said: LineAnswer,
+    pub next: usize,
+}
+
+// The line of a text from a place on. A last line with no line end is refused with 1.
+pub fn part_at(text: &[u8], from: usize) -> Part
+    requires { ⌜ from ≤ length (now text) ⌝ }
+    ensures { λ r. ⌜ r ≡ partAt (now (text .entry)) from ⌝ }
+{
+    let rest = &text[from..];
+    let end = find(rest, b'\n');
+    if end < rest.len() {
+        return Part {
+            said: line(&rest[..end]),
+            next: from + end + 1,
+        };
+    }
+    Part {
+        said: LineAnswer::Refused(1),
+        next: text.len(),
+    }
 }

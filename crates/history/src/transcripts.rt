@@ -1,9 +1,8 @@
 // What `slices` prints of a history text.
 use crate::applying::History;
-use crate::applying::LineResult;
-use crate::applying::apply;
-use crate::applying::refused;
-use crate::numbers::find;
+use crate::applying::applied;
+use crate::lines::LineAnswer;
+use crate::lines::part_at;
 use crate::printing::put_line;
 use crate::printing::put_rows;
 use crate::printing::put_text;
@@ -14,30 +13,19 @@ ghost use mathlib.Core.List.{_++_};
 ghost use Prim.Native.Nat.{_+_, _*_, _≤_};
 ghost use lib.ListN.{length, take, drop};
 ghost use Rattle.placement.specs.Pools.{stateOf, ValidPool};
-ghost use Rattle.history.specs.Promises.{PartApplied, Transcribed};
+ghost use Rattle.history.specs.Promises.{Transcribed};
 ghost use Rattle.history.specs.Replay.{printedTable, replayed};
 
 // Every transcript fits into so many bytes.
 pub const ROOM: usize = 3145728;
 
 // The most bytes of a history.
-const LONGEST: usize = 65536;
+pub const LONGEST: usize = 65536;
 
 // The answer of a transcript: how many bytes were printed.
 pub enum TranscriptAnswer {
     Printed(usize),
     Refused(u32),
-}
-
-// The first line of a text, which ends at `end`; without a line end there it is refused with 1.
-fn part_applied(history: History, text: &[u8], end: usize) -> LineResult
-    requires { ⌜ end ≤ length (now text) ⌝ }
-    ensures { λ r. ⌜ PartApplied history (now (text .entry)) end r ⌝ }
-{
-    if end < text.len() {
-        return apply(history, &text[..end]);
-    }
-    refused(history, 1)
 }
 
 // Writes the table of a pool.
@@ -70,20 +58,27 @@ fn replay(text: &[u8], out: &mut [u8]) -> usize
     let mut from = 0;
     let mut place = 0;
     while from < text.len() {
-        let rest = &text[from..];
-        let end = find(rest, b'\n');
-        let result = part_applied(history, rest, end);
-        place = put_line(
-            &mut *out,
-            place,
-            line,
-            wide32(result.refusal),
-            result.moved,
-            result.count as u64,
-        );
-        history = result.history;
+        let part = part_at(text, from);
+        let said = part.said;
+        match said {
+            LineAnswer::Refused(refusal) => {
+                place = put_line(&mut *out, place, line, wide32(refusal), 0, 0);
+            }
+            _ => {
+                let result = applied(history, said);
+                place = put_line(
+                    &mut *out,
+                    place,
+                    line,
+                    wide32(result.refusal),
+                    result.moved,
+                    result.count as u64,
+                );
+                history = result.history;
+            }
+        }
         line += 1;
-        from += end + 1;
+        from = part.next;
     }
     let pool = history.pool;
     put_table(&mut *out, place, pool)

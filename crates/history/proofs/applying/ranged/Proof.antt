@@ -8,15 +8,15 @@ refused-requires : tie.Need-refused-requires
 refused-requires c κs = search needs
 
 returns : tie.Need-returns
-returns c = ranged-after _ _ _ _ (c .refused .ensures) (c .before .if1 .taken)
+returns c = λ f. ranged-after _ _ _ _ (c .refused .ensures) (c .before .if1 .taken)
 
 fresh-requires : tie.Need-fresh-requires
 fresh-requires c κs = search needs
 
 returns-2 : tie.Need-returns-2
-returns-2 c =
+returns-2 c = λ f.
     let start = c .before .before .before in
-    ranged-first (start .args .history) (start .args .range) (start .args .limit) (c .before .fresh .result) (start .pre) (c .before .fresh .ensures) (c .before .before .if1 .left)
+    ranged-first (start .args .history) (start .args .range) (start .args .limit) (c .before .fresh .result) f (c .before .fresh .ensures) (c .before .before .if1 .left)
 
 pub ranged-spec : {M : Type 1} → statement M
 ranged-spec = tie.close (tie.spec refused-requires returns fresh-requires returns-2)

@@ -1,10 +1,14 @@
 -- `history::transcripts::replay` meets its contract. The loop's invariant, `Replaying`: what is printed and what is still to be printed of the
 -- text from place `from` on are the whole.
-use Prim.Native.Nat.{_+_, _-_, _≤_}
+use mathlib.Core.Logic.{⊎-elim}
+use mathlib.Core.Path.{_∙_}
+use Prim.Native.Nat.{_-_}
 use native.Mathlib.Omega.{arith}
 use lib.ListN.{length}
 use borrow.Author.Needs.{needs}
-use Rattle.history.proofs.Replaying.{Replaying, printed, replaying-none, replaying-room, replaying-step, replaying-table, replaying-end}
+use Rattle.history.proofs.AppliedLines.{said-refused}
+use Rattle.history.proofs.Replaying.{Replaying, replaying-none, replaying-room, replaying-step, replaying-table, replaying-end}
+use Rattle.history.proofs.TextParts.{part-above}
 use Rattle.history.proofs.transcripts.replay.Statement.{statement}
 use Rattle.history.proofs.transcripts.replay.Tie as tie
 
@@ -12,17 +16,7 @@ abbrev Inv-loop : tie.InvT-loop
 Inv-loop text out₀ history₀ line₀ from₀ place₀ out history line from place = Replaying text out₀ history line from place out
 
 abbrev μ-loop : tie.MeasureT-loop
-μ-loop text out₀ history₀ line₀ from₀ place₀ out history line from place = length text + 1 - from
-
--- the place behind a line
-next : (c : tie.After-part-applied Inv-loop μ-loop) → let f = c .before in let l = f .before .before .before in
-    l .loop .from + (f .find .result + 1) ≤ length (l .before .before .before .before .args .text .now) + 1
-next c =
-    let f = c .before in
-    let i = f .before .before in
-    let s = i .before .before .before .before .before in
-    printed (s .args .text .now) (s .args .out .now) (i .before .loop .inv) (i .loop-test .taken) (f .find .result) (f .find .ensures .0) (c .part-applied .result)
-    (c .part-applied .ensures) .next
+μ-loop text out₀ history₀ line₀ from₀ place₀ out history line from place = length text - from
 
 new-requires : tie.Need-new-requires Inv-loop μ-loop
 new-requires c κs = tt
@@ -32,57 +26,63 @@ loop-holds c =
     let a = c .before .before .before .args in
     replaying-none (a .text .now) (a .out .now) (c .new .result) (c .new .ensures)
 
-sub-rest : tie.Need-sub-rest Inv-loop μ-loop
-sub-rest c = omega arith
+part-at-requires : tie.Need-part-at-requires Inv-loop μ-loop
+part-at-requires c κs = omega (arith, c .loop-test .taken)
 
-part-rest-start : tie.Need-part-rest-start Inv-loop μ-loop
-part-rest-start c = search needs
-
-part-rest-end : tie.Need-part-rest-end Inv-loop μ-loop
-part-rest-end c = search needs
-
-find-requires : tie.Need-find-requires Inv-loop μ-loop
-find-requires c κs = tt
-
-part-applied-requires : tie.Need-part-applied-requires Inv-loop μ-loop
-part-applied-requires c κs = c .find .ensures .1
+enum-known-said : tie.Need-enum-known-said Inv-loop μ-loop
+enum-known-said c = search needs
 
 wide32-requires : tie.Need-wide32-requires Inv-loop μ-loop
 wide32-requires c κs = tt
 
 put-line-requires : tie.Need-put-line-requires Inv-loop μ-loop
 put-line-requires c κs =
-    let p = c .before .before in
-    let f = p .before in
-    let i = f .before .before in
+    let v = c .before .before .before in
+    let p = v .before .before in
+    let i = p .before in
     let s = i .before .before .before .before .before in
-    replaying-room (s .args .text .now) (s .args .out .now) (i .before .loop .inv) (i .loop-test .taken) (f .find .result) (f .find .ensures .0) (p .part-applied .result)
-    (p .part-applied .ensures) (c .wide32 .result) (c .wide32 .ensures .0) (s .pre .0) (c .wide32 .ensures .1) (s .pre .1)
+    replaying-room (s .args .text .now) (s .args .out .now) (i .before .loop .inv) (p .part-at .result) (p .part-at .ensures) (i .loop-test .taken) (s .pre .0) (s .pre .1) _
+    (said-refused _ _ (v .said .given .1)) (c .wide32 .result) (c .wide32 .ensures .0) (c .wide32 .ensures .1)
+
+applied-requires : tie.Need-applied-requires Inv-loop μ-loop
+applied-requires c κs = tt
+
+wide32-requires-2 : tie.Need-wide32-requires-2 Inv-loop μ-loop
+wide32-requires-2 c κs = tt
+
+put-line-requires-2 : tie.Need-put-line-requires-2 Inv-loop μ-loop
+put-line-requires-2 c κs =
+    let q = c .before .before in
+    let p = q .before .before in
+    let i = p .before in
+    let s = i .before .before .before .before .before in
+    replaying-room (s .args .text .now) (s .args .out .now) (i .before .loop .inv) (p .part-at .result) (p .part-at .ensures) (i .loop-test .taken) (s .pre .0) (s .pre .1)
+    (q .applied .result) (q .applied .ensures) (c .wide322 .result) (c .wide322 .ensures .0) (c .wide322 .ensures .1)
 
 add-line : tie.Need-add-line Inv-loop μ-loop
 add-line c =
-    let i = c .before .before .before .before .before .before .before .before .before in
+    let i = c .before .before in
     omega (arith, i .before .loop .inv .lines, i .loop-test .taken, i .before .before .before .before .before .pre .0)
 
-add-from : tie.Need-add-from Inv-loop μ-loop
-add-from c = omega (arith, next (c .before .before .before .before .before .before), c .before .before .before .before .before .before .before .before .before .before .before .before .before .before .pre .0)
-
-add-from-2 : tie.Need-add-from-2 Inv-loop μ-loop
-add-from-2 c = omega (arith, next (c .before .before .before .before .before .before), c .before .before .before .before .before .before .before .before .before .before .before .before .before .before .pre .0)
-
 loop-less : tie.Need-loop-less Inv-loop μ-loop
-loop-less c = omega (arith, next (c .before .before .before .before .before .before))
+loop-less c =
+    let p = c .before in
+    let i = p .before in
+    omega (arith, part-above _ _ (p .part-at .result) (p .part-at .ensures) (i .loop-test .taken), i .loop-test .taken)
 
 loop-again : tie.Need-loop-again Inv-loop μ-loop
 loop-again c =
-    let line = c .before .before .before in
-    let p = line .before .before .before in
-    let f = p .before in
-    let i = f .before .before in
+    let p = c .before in
+    let i = p .before in
     let s = i .before .before .before .before .before in
-    replaying-step (s .args .text .now) (s .args .out .now) (i .before .loop .inv) (i .loop-test .taken) (f .find .result) (f .find .ensures .0) (p .part-applied .result)
-    (p .part-applied .ensures) (line .before .wide32 .result) (line .before .wide32 .ensures .0) (s .pre .0) (line .before .wide32 .ensures .1) (line .put-line .result)
-    (line .put-line .last .0) (line .put-line .ensures .0) (line .put-line .ensures .1) (omega arith)
+    ⊎-elim
+    (λ v. replaying-step (s .args .text .now) (s .args .out .now) (i .before .loop .inv) (p .part-at .result) (p .part-at .ensures) (i .loop-test .taken) (s .pre .0) (s .pre .1) _
+    (said-refused _ _ (v .1 .given .1)) (v .4 .result) (v .4 .ensures .0) (v .4 .ensures .1) (c .match .history) (c .match .place) (c .match .out) (v .9) (v .10 ∙ v .5 .ensures .0)
+    (v .8 ∙ v .5 .ensures .1))
+    (λ v. replaying-step (s .args .text .now) (s .args .out .now) (i .before .loop .inv) (p .part-at .result) (p .part-at .ensures) (i .loop-test .taken) (s .pre .0) (s .pre .1)
+    (v .1 .result) (v .1 .ensures) (v .3 .result) (v .3 .ensures .0) (v .3 .ensures .1) (c .match .history) (c .match .place) (c .match .out) (v .9) (v .10 ∙ v .4 .ensures .0)
+    (v .8 ∙ v .4 .ensures .1))
+    (c .match .came)
 
 put-table-requires : tie.Need-put-table-requires Inv-loop μ-loop
 put-table-requires c κs =
@@ -110,16 +110,14 @@ replay-spec =
     μ-loop
     new-requires
     loop-holds
-    sub-rest
-    part-rest-start
-    part-rest-end
-    find-requires
-    part-applied-requires
+    part-at-requires
+    enum-known-said
     wide32-requires
     put-line-requires
+    applied-requires
+    wide32-requires-2
+    put-line-requires-2
     add-line
-    add-from
-    add-from-2
     loop-less
     loop-again
     put-table-requires

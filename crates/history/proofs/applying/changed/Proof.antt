@@ -1,9 +1,9 @@
--- `history::applying::added` meets its contract: 3 before a range line, else the change's answer.
+-- `history::applying::changed` meets its contract: 3 before a range line, else the change's answer.
 use borrow.Author.Needs.{needs}
 use borrow.Author.Tests.{not-true, not-false}
 use Rattle.history.proofs.AppliedLines.{line-before, line-begun}
-use Rattle.history.proofs.applying.added.Statement.{statement}
-use Rattle.history.proofs.applying.added.Tie as tie
+use Rattle.history.proofs.applying.changed.Statement.{statement}
+use Rattle.history.proofs.applying.changed.Tie as tie
 
 refused-requires : tie.Need-refused-requires
 refused-requires c κs = search needs
@@ -14,11 +14,11 @@ returns c = line-before _ _ _ (c .refused .ensures) (not-true _ (c .before .if1 
 list-requires : tie.Need-list-requires
 list-requires c κs = search needs
 
-slice-aggregate-add : tie.Need-slice-aggregate-add
-slice-aggregate-add c = search needs
+slice-aggregate-changed : tie.Need-slice-aggregate-changed
+slice-aggregate-changed c = search needs
 
-add-requires : tie.Need-add-requires
-add-requires c κs = search needs
+changed-requires : tie.Need-changed-requires
+changed-requires c κs = search needs
 
 settled-requires : tie.Need-settled-requires
 settled-requires c κs = search needs
@@ -27,16 +27,16 @@ returns-2 : tie.Need-returns-2
 returns-2 c =
     let change = c .before .before in
     let list = change .before .before in
-    line-begun _ _ _ _ _ (change .add .result) (list .list .ensures) (change .add .ensures) (c .settled .ensures) (not-false _ (list .before .before .if1 .left))
+    line-begun _ _ _ _ _ (change .changed .result) (list .list .ensures) (change .changed .ensures) (c .settled .ensures) (not-false _ (list .before .before .if1 .left))
 
-pub added-spec : {M : Type 1} → statement M
-added-spec =
+pub changed-spec : {M : Type 1} → statement M
+changed-spec =
     tie.close
     (tie.spec
     refused-requires
     returns
     list-requires
-    slice-aggregate-add
-    add-requires
+    slice-aggregate-changed
+    changed-requires
     settled-requires
     returns-2)
