@@ -3,4 +3,5 @@ pub mod Outcomes
 pub mod FlatRows
 pub mod Drafts
 pub mod PassedOn
+pub mod Passing
 pub mod CallLists
