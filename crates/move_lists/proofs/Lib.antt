@@ -3,3 +3,4 @@ pub mod Outcomes
 pub mod FlatRows
 pub mod Drafts
 pub mod PassedOn
+pub mod Passing

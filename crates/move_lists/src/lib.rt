@@ -1,5 +1,6 @@
 // The offered changes: add, remove and resize, with the moves written into a list of structs. The work is
 // done by the calls of `placement` on flat numbers; here one writer copies the moves into the lent list.
+use placement::Call;
 use placement::ChangeAnswer;
 use placement::Pool;
 ghost use mathlib.Core.Path.{_≡_};
@@ -8,7 +9,7 @@ ghost use Prim.Native.Nat.{_*_, _≤_, min};
 ghost use lib.ListN.{length, take, drop};
 ghost use Rattle.slicing.specs.Changes as Changes;
 ghost use Rattle.slicing_core.specs.Stages.{scratch};
-ghost use Rattle.placement.specs.Promises.{movesIn};
+ghost use Rattle.placement.specs.Promises.{movesIn, changeOf};
 ghost use Rattle.move_lists.specs.Promises.{rowOf, Drawn, Changed};
 
 // A move: `length` points from `start` on go from one device to another.
@@ -72,34 +73,33 @@ fn rows_of(numbers: &[u64; NUMBERS], n: usize) -> [Move; MOST]
     rows
 }
 
-fn draw_add(pool: Pool, id: u64, capacity: u64, places: usize) -> Draft
-    ensures { λ r. ⌜ Drawn pool (Changes.add id capacity) places r ⌝ }
+// Works a change out for a list of so many places.
+fn draw(pool: Pool, call: Call, places: usize) -> Draft
+    ensures { λ r. ⌜ Drawn pool (changeOf call) places r ⌝ }
 {
     let mut numbers = blank();
     let end = numbers_of(places);
-    let answer = placement::add(pool, id, capacity, &mut numbers[..end]);
+    let answer = placement::changed(pool, call, &mut numbers[..end]);
     let rows = rows_of(&numbers, answer.count);
     Draft { answer, rows }
+}
+
+fn draw_add(pool: Pool, id: u64, capacity: u64, places: usize) -> Draft
+    ensures { λ r. ⌜ Drawn pool (Changes.add id capacity) places r ⌝ }
+{
+    draw(pool, Call::Add(id, capacity), places)
 }
 
 fn draw_remove(pool: Pool, id: u64, places: usize) -> Draft
     ensures { λ r. ⌜ Drawn pool (Changes.remove id) places r ⌝ }
 {
-    let mut numbers = blank();
-    let end = numbers_of(places);
-    let answer = placement::remove(pool, id, &mut numbers[..end]);
-    let rows = rows_of(&numbers, answer.count);
-    Draft { answer, rows }
+    draw(pool, Call::Remove(id), places)
 }
 
 fn draw_resize(pool: Pool, id: u64, capacity: u64, places: usize) -> Draft
     ensures { λ r. ⌜ Drawn pool (Changes.resize id capacity) places r ⌝ }
 {
-    let mut numbers = blank();
-    let end = numbers_of(places);
-    let answer = placement::resize(pool, id, capacity, &mut numbers[..end]);
-    let rows = rows_of(&numbers, answer.count);
-    Draft { answer, rows }
+    draw(pool, Call::Resize(id, capacity), places)
 }
 
 // What a draft holds.

@@ -1,54 +1,13 @@
--- `move_lists::draw_add` meets its contract: the change on flat numbers, and its moves as structs.
-use mathlib.Core.Path.{sym}
+-- `move_lists::draw_add` meets its contract: the draft is that of its call.
 use borrow.Author.Needs.{needs}
-use Rattle.slicing.specs.Changes as Changes
-use Rattle.move_lists.proofs.Drafts.{lent-length, lent-back, drawn-lent}
 use Rattle.move_lists.proofs.draw_add.Statement.{statement}
 use Rattle.move_lists.proofs.draw_add.Tie as tie
 
-blank-requires : tie.Need-blank-requires
-blank-requires c κs = search needs
-
-numbers-of-requires : tie.Need-numbers-of-requires
-numbers-of-requires c κs = search needs
-
-array-borrow-prefix-numbers : tie.Need-array-borrow-prefix-numbers
-array-borrow-prefix-numbers c = search needs
-
-slice-aggregate-add : tie.Need-slice-aggregate-add
-slice-aggregate-add c =
-    let b = c .before .before in
-    sym (lent-length (b .before .args .places) (c .before .numbers-of .result) (b .blank .result) (b .blank .ensures) (c .before .numbers-of .ensures))
-
-add-requires : tie.Need-add-requires
-add-requires c κs = search needs
-
-rows-of-requires : tie.Need-rows-of-requires
-rows-of-requires c κs =
-    let r = c .before .before in
-    let e = r .before .before in
-    let b = e .before in
-    let a = b .before .args in
-    lent-back (a .places) (e .numbers-of .result) (b .blank .result) (b .blank .ensures) (e .numbers-of .ensures)
-    (a .pool) (Changes.add (a .id) (a .capacity)) (r .add .result) _ (r .add .kept .1 .1 .1 .0) (r .add .ensures)
+draw-requires : tie.Need-draw-requires
+draw-requires c κs = search needs
 
 returns : tie.Need-returns
-returns c =
-    let r = c .before .before .before in
-    let e = r .before .before in
-    let b = e .before in
-    let a = b .before .args in
-    drawn-lent (a .places) (e .numbers-of .result) (b .blank .result) (b .blank .ensures) (e .numbers-of .ensures)
-    (a .pool) (Changes.add (a .id) (a .capacity)) (r .add .result) _ (r .add .kept .1 .1 .1 .0) (r .add .ensures) (c .rows-of .result) (c .rows-of .ensures)
+returns c = search needs
 
 pub draw-add-spec : {M : Type 1} → statement M
-draw-add-spec =
-    tie.close
-    (tie.spec
-    blank-requires
-    numbers-of-requires
-    array-borrow-prefix-numbers
-    slice-aggregate-add
-    add-requires
-    rows-of-requires
-    returns)
+draw-add-spec = tie.close (tie.spec draw-requires returns)

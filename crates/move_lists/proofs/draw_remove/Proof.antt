@@ -1,54 +1,13 @@
--- `move_lists::draw_remove` meets its contract: the change on flat numbers, and its moves as structs.
-use mathlib.Core.Path.{sym}
+-- `move_lists::draw_remove` meets its contract: the draft is that of its call.
 use borrow.Author.Needs.{needs}
-use Rattle.slicing.specs.Changes as Changes
-use Rattle.move_lists.proofs.Drafts.{lent-length, lent-back, drawn-lent}
 use Rattle.move_lists.proofs.draw_remove.Statement.{statement}
 use Rattle.move_lists.proofs.draw_remove.Tie as tie
 
-blank-requires : tie.Need-blank-requires
-blank-requires c κs = search needs
-
-numbers-of-requires : tie.Need-numbers-of-requires
-numbers-of-requires c κs = search needs
-
-array-borrow-prefix-numbers : tie.Need-array-borrow-prefix-numbers
-array-borrow-prefix-numbers c = search needs
-
-slice-aggregate-remove : tie.Need-slice-aggregate-remove
-slice-aggregate-remove c =
-    let b = c .before .before in
-    sym (lent-length (b .before .args .places) (c .before .numbers-of .result) (b .blank .result) (b .blank .ensures) (c .before .numbers-of .ensures))
-
-remove-requires : tie.Need-remove-requires
-remove-requires c κs = search needs
-
-rows-of-requires : tie.Need-rows-of-requires
-rows-of-requires c κs =
-    let r = c .before .before in
-    let e = r .before .before in
-    let b = e .before in
-    let a = b .before .args in
-    lent-back (a .places) (e .numbers-of .result) (b .blank .result) (b .blank .ensures) (e .numbers-of .ensures)
-    (a .pool) (Changes.remove (a .id)) (r .remove .result) _ (r .remove .kept .1 .1 .0) (r .remove .ensures)
+draw-requires : tie.Need-draw-requires
+draw-requires c κs = search needs
 
 returns : tie.Need-returns
-returns c =
-    let r = c .before .before .before in
-    let e = r .before .before in
-    let b = e .before in
-    let a = b .before .args in
-    drawn-lent (a .places) (e .numbers-of .result) (b .blank .result) (b .blank .ensures) (e .numbers-of .ensures)
-    (a .pool) (Changes.remove (a .id)) (r .remove .result) _ (r .remove .kept .1 .1 .0) (r .remove .ensures) (c .rows-of .result) (c .rows-of .ensures)
+returns c = search needs
 
 pub draw-remove-spec : {M : Type 1} → statement M
-draw-remove-spec =
-    tie.close
-    (tie.spec
-    blank-requires
-    numbers-of-requires
-    array-borrow-prefix-numbers
-    slice-aggregate-remove
-    remove-requires
-    rows-of-requires
-    returns)
+draw-remove-spec = tie.close (tie.spec draw-requires returns)

@@ -1,10 +1,10 @@
--- `move_lists::draw_resize` meets its contract: the change on flat numbers, and its moves as structs.
+-- `move_lists::draw` meets its contract: the change on flat numbers, and its moves as structs.
 use mathlib.Core.Path.{sym}
 use borrow.Author.Needs.{needs}
-use Rattle.slicing.specs.Changes as Changes
+use Rattle.placement.specs.Promises.{changeOf}
 use Rattle.move_lists.proofs.Drafts.{lent-length, lent-back, drawn-lent}
-use Rattle.move_lists.proofs.draw_resize.Statement.{statement}
-use Rattle.move_lists.proofs.draw_resize.Tie as tie
+use Rattle.move_lists.proofs.draw.Statement.{statement}
+use Rattle.move_lists.proofs.draw.Tie as tie
 
 blank-requires : tie.Need-blank-requires
 blank-requires c κs = search needs
@@ -15,13 +15,13 @@ numbers-of-requires c κs = search needs
 array-borrow-prefix-numbers : tie.Need-array-borrow-prefix-numbers
 array-borrow-prefix-numbers c = search needs
 
-slice-aggregate-resize : tie.Need-slice-aggregate-resize
-slice-aggregate-resize c =
+slice-aggregate-changed : tie.Need-slice-aggregate-changed
+slice-aggregate-changed c =
     let b = c .before .before in
     sym (lent-length (b .before .args .places) (c .before .numbers-of .result) (b .blank .result) (b .blank .ensures) (c .before .numbers-of .ensures))
 
-resize-requires : tie.Need-resize-requires
-resize-requires c κs = search needs
+changed-requires : tie.Need-changed-requires
+changed-requires c κs = search needs
 
 rows-of-requires : tie.Need-rows-of-requires
 rows-of-requires c κs =
@@ -30,7 +30,7 @@ rows-of-requires c κs =
     let b = e .before in
     let a = b .before .args in
     lent-back (a .places) (e .numbers-of .result) (b .blank .result) (b .blank .ensures) (e .numbers-of .ensures)
-    (a .pool) (Changes.resize (a .id) (a .capacity)) (r .resize .result) _ (r .resize .kept .1 .1 .1 .0) (r .resize .ensures)
+    (a .pool) (changeOf (a .call)) (r .changed .result) _ (r .changed .kept .1 .1 .0) (r .changed .ensures)
 
 returns : tie.Need-returns
 returns c =
@@ -39,16 +39,16 @@ returns c =
     let b = e .before in
     let a = b .before .args in
     drawn-lent (a .places) (e .numbers-of .result) (b .blank .result) (b .blank .ensures) (e .numbers-of .ensures)
-    (a .pool) (Changes.resize (a .id) (a .capacity)) (r .resize .result) _ (r .resize .kept .1 .1 .1 .0) (r .resize .ensures) (c .rows-of .result) (c .rows-of .ensures)
+    (a .pool) (changeOf (a .call)) (r .changed .result) _ (r .changed .kept .1 .1 .0) (r .changed .ensures) (c .rows-of .result) (c .rows-of .ensures)
 
-pub draw-resize-spec : {M : Type 1} → statement M
-draw-resize-spec =
+pub draw-spec : {M : Type 1} → statement M
+draw-spec =
     tie.close
     (tie.spec
     blank-requires
     numbers-of-requires
     array-borrow-prefix-numbers
-    slice-aggregate-resize
-    resize-requires
+    slice-aggregate-changed
+    changed-requires
     rows-of-requires
     returns)
