@@ -1,0 +1,8 @@
+pub mod FirstPlaces
+pub mod OnImages
+pub mod StoredPools
+pub mod ToldOwners
+pub mod MovedLists
+pub mod ArrayLengths
+pub mod CopiedRows
+pub mod CopiedCalls

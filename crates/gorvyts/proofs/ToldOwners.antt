@@ -1,0 +1,52 @@
+-- The call for the owner of a point: what it leaves, from what the calls beneath it answered.
+--
+-- owned-short (no place for the answer), owned-refused (a refused image), owned-owner, owned-none (what the lookup answers)
+use mathlib.Core.Path.{_≡_, refl, sym, ap, _∙_}
+use mathlib.Core.List.{List, _∷_}
+use Prim.Native.Nat.{ℕ, _≤_, _<_}
+use native.Mathlib.Omega.{arith}
+use lib.ListN.{length, drop}
+use Rattle.slicing.specs.Runs.{ownerAt}
+use Rattle.slicing_core.proofs.Rows.{length-deviceRows}
+use Rattle.placement.specs.Pools.{stateOf, ValidPool}
+use Rattle.placement.specs.declared.Pool.{Pool}
+use Rattle.placement.specs.declared.PoolAnswer.{PoolAnswer}
+use Rattle.lookups.specs.Promises.{ownerAnswer, Looked}
+use Rattle.lookups.specs.declared.OwnerAnswer.{OwnerAnswer}
+use Rattle.lookups.specs.declared.OwnerAnswer.the-variants.{Owner, Refused}
+use Rattle.images.specs.Promises.{ReadAs}
+use Rattle.gorvyts.specs.Promises.{Told, ownerTold, Owned}
+use Rattle.gorvyts.proofs.OnImages.{on-image-refused, on-image-accepted, on-image-valid}
+
+-- the devices of a pool are those of its state
+looked-state : (p : Pool) (x : ℕ) (w : OwnerAnswer) → ValidPool p → Looked p x w
+    → w ≡ ownerAnswer (stateOf p .range) (length (stateOf p .devices)) x (ownerAt (stateOf p .table) x)
+unfolding stateOf
+looked-state p x w v h =
+    h .valid v
+    ∙ ap (λ (n : ℕ). ownerAnswer (p .range) n x (ownerAt (stateOf p .table) x)) (sym (length-deviceRows (p .ids) (p .capacities) 0 (p .devices)))
+
+module _ (xs : List ℕ) (x : ℕ) (a : List ℕ) where
+  pub owned-short : length a < 1 → Owned xs x a (record { number = 17; answer = a })
+  owned-short h = record { short = λ k. refl; room = λ k. absurd (omega (arith, h, k)) }
+
+  module _ (made : PoolAnswer) (i : ReadAs xs made) (l : 1 ≤ length a) where
+    pub owned-refused : (a' : List ℕ) → 0 < made .refusal → a' ≡ 0 ∷ drop 1 a → Owned xs x a (record { number = made .refusal; answer = a' })
+    owned-refused a' z e = record {
+      short = λ h. absurd (omega (arith, l, h));
+      room = λ h. on-image-refused xs _ _ _ made i z (rw e);
+    }
+
+    owned-told : (w : OwnerAnswer) (r : Told) → made .refusal ≤ 0 → Looked (made .pool) x w → r ≡ ownerTold a w → Owned xs x a r
+    owned-told w r z h e = record {
+      short = λ k. absurd (omega (arith, l, k));
+      room = λ k. on-image-accepted xs _ _ r made i z (e ∙ ap (ownerTold a) (looked-state (made .pool) x w (on-image-valid xs made i z) h));
+    }
+
+    pub owned-owner : (w : OwnerAnswer) (d : ℕ) (a' : List ℕ) → made .refusal ≤ 0 → Looked (made .pool) x w → w ≡ Owner d → a' ≡ d ∷ drop 1 a
+        → Owned xs x a (record { number = 0; answer = a' })
+    owned-owner w d a' z h e k = owned-told w _ z h (rw (e, k))
+
+    pub owned-none : (w : OwnerAnswer) (n : ℕ) (a' : List ℕ) → made .refusal ≤ 0 → Looked (made .pool) x w → w ≡ Refused n → a' ≡ 0 ∷ drop 1 a
+        → Owned xs x a (record { number = n; answer = a' })
+    owned-none w n a' z h e k = owned-told w _ z h (rw (e, k))

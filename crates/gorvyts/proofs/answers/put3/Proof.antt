@@ -1,0 +1,27 @@
+-- `gorvyts::answers::put3` meets its contract.
+use native.Mathlib.Omega.{arith}
+use lib.ListN.{length-set}
+use borrow.Author.Needs.{needs}
+use Rattle.gorvyts.proofs.FirstPlaces.{put-firsts}
+use Rattle.gorvyts.proofs.answers.put3.Statement.{statement}
+use Rattle.gorvyts.proofs.answers.put3.Tie as tie
+
+slice-write-answer : tie.Need-slice-write-answer
+slice-write-answer c = search needs
+
+slice-write-answer-2 : tie.Need-slice-write-answer-2
+slice-write-answer-2 c = omega (arith, length-set (c .args .answer .now) 0 (c .args .x))
+
+slice-write-answer-3 : tie.Need-slice-write-answer-3
+slice-write-answer-3 c = search needs
+
+same-length : tie.Need-same-length
+same-length c = search needs
+
+returns : tie.Need-returns
+returns c = put-firsts (c .args .answer .now) (c .args .x) (c .args .y) (c .args .z) (c .pre)
+
+pub put3-spec : {M : Type 1} → statement M
+put3-spec =
+    tie.close
+    (tie.spec slice-write-answer slice-write-answer-2 slice-write-answer-3 same-length returns)

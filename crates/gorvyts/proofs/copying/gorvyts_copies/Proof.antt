@@ -1,0 +1,84 @@
+-- `gorvyts::copying::gorvyts_copies` meets its contract.
+use borrow.Author.Needs.{needs}
+use Rattle.gorvyts.proofs.CopiedCalls.{one-tally, one-row, one-refused, one-copied}
+use Rattle.gorvyts.proofs.copying.gorvyts_copies.Statement.{statement}
+use Rattle.gorvyts.proofs.copying.gorvyts_copies.Tie as tie
+
+returns : tie.Need-returns
+returns c =
+    let s = c .before .before .before .before in
+    one-tally (s .args .image .now) (s .args .block) (s .args .k) (s .args .tally .now) (s .args .row .now) (c .if1 .taken)
+
+returns-2 : tie.Need-returns-2
+returns-2 c =
+    let s = c .before .before .before .before .before in
+    one-row (s .args .image .now) (s .args .block) (s .args .k) (s .args .tally .now) (s .args .row .now) (c .if2 .taken)
+
+read-requires : tie.Need-read-requires
+read-requires c κs = search needs
+
+put-refusal-requires : tie.Need-put-refusal-requires
+put-refusal-requires c κs = search needs
+
+same-length : tie.Need-same-length
+same-length c = search needs
+
+returns-3 : tie.Need-returns-3
+returns-3 c =
+    let put = c .before .before in
+    let t = put .before .before in
+    let r = t .before .before in
+    let room = r .before in
+    let s = room .before .before .before .before .before in
+    one-refused (s .args .image .now) (s .args .block) (s .args .k) (s .args .tally .now) (s .args .row .now) (r .read .result) (r .read .ensures)
+    (room .before .if1 .left) (room .if2 .left) _ (t .if3 .taken) (put .put-refusal .ensures)
+
+counters-of-requires : tie.Need-counters-of-requires
+counters-of-requires c κs = search needs
+
+copies-of-requires : tie.Need-copies-of-requires
+copies-of-requires c κs = search needs
+
+put-row-requires : tie.Need-put-row-requires
+put-row-requires c κs = search needs
+
+put-counters-requires : tie.Need-put-counters-requires
+put-counters-requires c κs = search needs
+
+same-length-2 : tie.Need-same-length-2
+same-length-2 c = search needs
+
+same-length-3 : tie.Need-same-length-3
+same-length-3 c = search needs
+
+returns-4 : tie.Need-returns-4
+returns-4 c =
+    let tallied = c .before .before in
+    let put = tallied .before .before .before .before in
+    let a = put .before .before .before in
+    let k = a .before in
+    let t = k .before .before .before in
+    let r = t .before .before in
+    let room = r .before in
+    let s = room .before .before .before .before .before in
+    one-copied (s .args .image .now) (s .args .block) (s .args .k) (s .args .tally .now) (s .args .row .now) (r .read .result) (r .read .ensures)
+    (room .before .if1 .left) (room .if2 .left) (k .counters-of .result) (a .copies-of .result) _ _ (t .if3 .left) (k .counters-of .ensures)
+    (a .copies-of .ensures) (put .put-row .ensures) (tallied .put-counters .ensures)
+
+pub gorvyts-copies-spec : {M : Type 1} → statement M
+gorvyts-copies-spec =
+    tie.close
+    (tie.spec
+    returns
+    returns-2
+    read-requires
+    put-refusal-requires
+    same-length
+    returns-3
+    counters-of-requires
+    copies-of-requires
+    put-row-requires
+    put-counters-requires
+    same-length-2
+    same-length-3
+    returns-4)

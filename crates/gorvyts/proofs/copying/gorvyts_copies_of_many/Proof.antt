@@ -1,0 +1,75 @@
+-- `gorvyts::copying::gorvyts_copies_of_many` meets its contract.
+use native.Mathlib.Omega.{arith}
+use borrow.Author.Needs.{needs}
+use Rattle.gorvyts.proofs.CopiedCalls.{many-tally, many-rows, many-refused, many-copied}
+use Rattle.gorvyts.proofs.OnImages.{on-image-valid}
+use Rattle.gorvyts.proofs.copying.gorvyts_copies_of_many.Statement.{statement}
+use Rattle.gorvyts.proofs.copying.gorvyts_copies_of_many.Tie as tie
+
+returns : tie.Need-returns
+returns c =
+    let s = c .before .before .before .before .before in
+    many-tally (s .args .image .now) (s .args .blocks .now) (s .args .k) (s .args .tally .now) (s .args .rows .now) (c .if1 .taken)
+
+returns-2 : tie.Need-returns-2
+returns-2 c =
+    let s = c .before .before .before .before .before .before in
+    many-rows (s .args .image .now) (s .args .blocks .now) (s .args .k) (s .args .tally .now) (s .args .rows .now) (c .if2 .taken)
+
+read-requires : tie.Need-read-requires
+read-requires c κs = search needs
+
+returns-3 : tie.Need-returns-3
+returns-3 c =
+    let r = c .before .before in
+    let room = r .before in
+    let s = room .before .before .before .before .before .before in
+    many-refused (s .args .image .now) (s .args .blocks .now) (s .args .k) (s .args .tally .now) (s .args .rows .now) (r .read .result) (r .read .ensures)
+    (room .before .if1 .left) (room .if2 .left) (c .if3 .taken)
+
+counters-of-requires : tie.Need-counters-of-requires
+counters-of-requires c κs = search needs
+
+copy-many-requires : tie.Need-copy-many-requires
+copy-many-requires c κs =
+    let t = c .before .before .before .before in
+    let r = t .before .before in
+    let s = r .before .before .before .before .before .before .before in
+    (on-image-valid (s .args .image .now) (r .read .result) (r .read .ensures) (t .if3 .left), omega (arith, r .before .if2 .left))
+
+put-counters-requires : tie.Need-put-counters-requires
+put-counters-requires c κs = search needs
+
+same-length : tie.Need-same-length
+same-length c = search needs
+
+same-length-2 : tie.Need-same-length-2
+same-length-2 c = search needs
+
+returns-4 : tie.Need-returns-4
+returns-4 c =
+    let tallied = c .before .before in
+    let put = tallied .before .before .before .before in
+    let k = put .before .before in
+    let t = k .before .before .before in
+    let r = t .before .before in
+    let room = r .before in
+    let s = room .before .before .before .before .before .before in
+    many-copied (s .args .image .now) (s .args .blocks .now) (s .args .k) (s .args .tally .now) (s .args .rows .now) (r .read .result) (r .read .ensures)
+    (room .before .if1 .left) (room .if2 .left) (k .counters-of .result) (put .copy-many .result) _ _ (t .if3 .left) (k .counters-of .ensures)
+    (put .copy-many .ensures .0) (put .copy-many .ensures .1) (tallied .put-counters .ensures)
+
+pub gorvyts-copies-of-many-spec : {M : Type 1} → statement M
+gorvyts-copies-of-many-spec =
+    tie.close
+    (tie.spec
+    returns
+    returns-2
+    read-requires
+    returns-3
+    counters-of-requires
+    copy-many-requires
+    put-counters-requires
+    same-length
+    same-length-2
+    returns-4)

@@ -1,0 +1,38 @@
+-- `gorvyts::making::gorvyts_replay` meets its contract.
+use borrow.Author.Needs.{needs}
+use Rattle.gorvyts.proofs.StoredPools.{unanswered, replay-valid-pool, replay-stored}
+use Rattle.gorvyts.proofs.making.gorvyts_replay.Statement.{statement}
+use Rattle.gorvyts.proofs.making.gorvyts_replay.Tie as tie
+
+returns : tie.Need-returns
+returns c =
+    let s = c .before .before .before .before in
+    unanswered 1 (s .args .image .now) (s .args .answer .now) _ (c .if1 .taken)
+
+pool-after-requires : tie.Need-pool-after-requires
+pool-after-requires c κs = search needs
+
+store-made-requires : tie.Need-store-made-requires
+store-made-requires c κs =
+    let f = c .before .before in
+    let s = f .before .before .before .before .before in
+    (replay-valid-pool (s .args .text .now) (f .pool-after .result) (f .pool-after .ensures), f .before .if1 .left)
+
+same-length : tie.Need-same-length
+same-length c = search needs
+
+same-length-2 : tie.Need-same-length-2
+same-length-2 c = search needs
+
+returns-2 : tie.Need-returns-2
+returns-2 c =
+    let st = c .before .before .before .before in
+    let f = st .before .before .before in
+    let s = f .before .before .before .before .before in
+    replay-stored (s .args .text .now) (f .pool-after .result) (f .pool-after .ensures) (s .args .image .now) (s .args .answer .now) _
+    (f .before .if1 .left) (st .store-made .ensures)
+
+pub gorvyts-replay-spec : {M : Type 1} → statement M
+gorvyts-replay-spec =
+    tie.close
+    (tie.spec returns pool-after-requires store-made-requires same-length same-length-2 returns-2)

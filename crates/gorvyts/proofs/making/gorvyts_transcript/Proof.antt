@@ -1,0 +1,74 @@
+-- `gorvyts::making::gorvyts_transcript` meets its contract.
+use borrow.Author.Needs.{needs}
+use Rattle.gorvyts.proofs.StoredPools.{unanswered, transcript-whole, transcript-none}
+use Rattle.gorvyts.proofs.making.gorvyts_transcript.Statement.{statement}
+use Rattle.gorvyts.proofs.making.gorvyts_transcript.Tie as tie
+
+returns : tie.Need-returns
+returns c =
+    let s = c .before .before .before .before in
+    unanswered 1 (s .args .out .now) (s .args .answer .now) _ (c .if1 .taken)
+
+transcript-requires : tie.Need-transcript-requires
+transcript-requires c κs = search needs
+
+enum-known-size : tie.Need-enum-known-size
+enum-known-size c = search needs
+
+put1-requires : tie.Need-put1-requires
+put1-requires c κs = search needs
+
+enum-known-refusal : tie.Need-enum-known-refusal
+enum-known-refusal c = search needs
+
+put1-requires-2 : tie.Need-put1-requires-2
+put1-requires-2 c κs = search needs
+
+same-length : tie.Need-same-length
+same-length c = search needs
+
+same-length-2 : tie.Need-same-length-2
+same-length-2 c = search needs
+
+returns-2 : tie.Need-returns-2
+returns-2 c =
+    let put = c .before .before in
+    let v = put .before .before .before in
+    let w = v .before .before .before .before in
+    let t = w .before .before in
+    let s = t .before .before .before .before in
+    transcript-whole (s .args .text .now) (s .args .out .now) _ (s .args .answer .now) _ _ _ (w .transcript .ensures) (t .if1 .left)
+    (v .size .given .1) (put .put1 .ensures)
+
+same-length-3 : tie.Need-same-length-3
+same-length-3 c = search needs
+
+same-length-4 : tie.Need-same-length-4
+same-length-4 c = search needs
+
+returns-3 : tie.Need-returns-3
+returns-3 c =
+    let put = c .before .before in
+    let v = put .before .before .before in
+    let w = v .before .before .before .before in
+    let t = w .before .before in
+    let s = t .before .before .before .before in
+    transcript-none (s .args .text .now) (s .args .out .now) _ (s .args .answer .now) _ _ _ (w .transcript .ensures) (t .if1 .left)
+    (v .refusal .given .1) (put .put12 .ensures)
+
+pub gorvyts-transcript-spec : {M : Type 1} → statement M
+gorvyts-transcript-spec =
+    tie.close
+    (tie.spec
+    returns
+    transcript-requires
+    enum-known-size
+    put1-requires
+    enum-known-refusal
+    put1-requires-2
+    same-length
+    same-length-2
+    returns-2
+    same-length-3
+    same-length-4
+    returns-3)

@@ -1,0 +1,90 @@
+-- `gorvyts::owning::gorvyts_owner` meets its contract.
+use borrow.Author.Needs.{needs}
+use Rattle.gorvyts.proofs.ToldOwners.{owned-short, owned-refused, owned-owner, owned-none}
+use Rattle.gorvyts.proofs.owning.gorvyts_owner.Statement.{statement}
+use Rattle.gorvyts.proofs.owning.gorvyts_owner.Tie as tie
+
+returns : tie.Need-returns
+returns c =
+    let s = c .before .before .before in
+    owned-short (s .args .image .now) (s .args .point) (s .args .answer .now) (c .if1 .taken)
+
+read-requires : tie.Need-read-requires
+read-requires c κs = search needs
+
+put1-requires : tie.Need-put1-requires
+put1-requires c κs = search needs
+
+same-length : tie.Need-same-length
+same-length c = search needs
+
+returns-2 : tie.Need-returns-2
+returns-2 c =
+    let put = c .before .before in
+    let t = put .before .before in
+    let r = t .before .before in
+    let s = r .before .before .before .before in
+    owned-refused (s .args .image .now) (s .args .point) (s .args .answer .now) (r .read .result) (r .read .ensures) (r .before .if1 .left) _
+    (t .if2 .taken) (put .put1 .ensures)
+
+owner-of-requires : tie.Need-owner-of-requires
+owner-of-requires c κs = search needs
+
+enum-known-id : tie.Need-enum-known-id
+enum-known-id c = search needs
+
+put1-requires-2 : tie.Need-put1-requires-2
+put1-requires-2 c κs = search needs
+
+enum-known-refusal : tie.Need-enum-known-refusal
+enum-known-refusal c = search needs
+
+put1-requires-3 : tie.Need-put1-requires-3
+put1-requires-3 c κs = search needs
+
+same-length-2 : tie.Need-same-length-2
+same-length-2 c = search needs
+
+returns-3 : tie.Need-returns-3
+returns-3 c =
+    let put = c .before .before in
+    let v = put .before .before .before in
+    let o = v .before .before in
+    let t = o .before .before in
+    let r = t .before .before in
+    let s = r .before .before .before .before in
+    owned-owner (s .args .image .now) (s .args .point) (s .args .answer .now) (r .read .result) (r .read .ensures) (r .before .if1 .left)
+    (o .owner-of .result) _ _ (t .if2 .left) (o .owner-of .ensures) (v .id .given .1) (put .put12 .ensures)
+
+same-length-3 : tie.Need-same-length-3
+same-length-3 c = search needs
+
+returns-4 : tie.Need-returns-4
+returns-4 c =
+    let put = c .before .before in
+    let v = put .before .before .before in
+    let o = v .before .before in
+    let t = o .before .before in
+    let r = t .before .before in
+    let s = r .before .before .before .before in
+    owned-none (s .args .image .now) (s .args .point) (s .args .answer .now) (r .read .result) (r .read .ensures) (r .before .if1 .left)
+    (o .owner-of .result) _ _ (t .if2 .left) (o .owner-of .ensures) (v .refusal .given .1) (put .put13 .ensures)
+
+pub gorvyts-owner-spec : {M : Type 1} → statement M
+gorvyts-owner-spec =
+    tie.close
+    (tie.spec
+    returns
+    read-requires
+    put1-requires
+    same-length
+    returns-2
+    owner-of-requires
+    enum-known-id
+    put1-requires-2
+    enum-known-refusal
+    put1-requires-3
+    same-length-2
+    returns-3
+    same-length-3
+    returns-4)

@@ -1,0 +1,31 @@
+// The owner of a point.
+use crate::answers::put1;
+use lookups::OwnerAnswer;
+ghost use Rattle.gorvyts.specs.Promises.{Owned};
+
+// The owner of a point; answer: its id. 14 to 16 as of `gorvyts_check`; 13 where the point is at or above the
+// range, then 10 where no device is present.
+#[no_mangle]
+pub extern "C" fn gorvyts_owner(image: &[u8], point: u64, answer: &mut [u64]) -> u32
+    ensures { λ r. ⌜ Owned (now (image .entry)) point (now (answer .entry)) (record { number = r; answer = now (answer .exit) }) ⌝ }
+{
+    if answer.len() < 1 {
+        return 17;
+    }
+    let made = images::read(image);
+    if made.refusal > 0 {
+        put1(&mut *answer, 0);
+        return made.refusal;
+    }
+    let pool = made.pool;
+    match lookups::owner_of(pool, point) {
+        OwnerAnswer::Owner(id) => {
+            put1(&mut *answer, id);
+            0
+        }
+        OwnerAnswer::Refused(refusal) => {
+            put1(&mut *answer, 0);
+            refusal
+        }
+    }
+}
