@@ -13,7 +13,7 @@
 //                     are answered otherwise
 use images::WriteAnswer;
 use number_text::Input;
-use number_text::LONGEST;
+use number_text::PIECE;
 use number_text::end_line;
 use number_text::first;
 use number_text::least;
@@ -280,7 +280,7 @@ fn run(numbers: &[u64; 16384], count: usize)
 
 // A line without numbers ends the program.
 fn main() {
-    let mut piece = [0u8; LONGEST];
+    let mut piece = [0u8; PIECE];
     let mut numbers = [0u64; 16384];
     let mut input = Input::new();
     let mut left: u64 = 1000000;
