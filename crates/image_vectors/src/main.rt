@@ -31,6 +31,7 @@ const SIZE: usize = 32768;
 // Stores the numbers of a line, from one place up to another, as bytes, and answers how many.
 fn load(bytes: &mut [u8], numbers: &[u64; 16384], from: usize, to: usize) -> usize
     requires { ⌜ (from ≤ to) × (to ≤ 16384) × (16384 ≤ length (now bytes)) ⌝ }
+    ensures { λ r. ⌜ r ≤ 16384 ⌝ }
 {
     let mut n = 0;
     while n < to - from {

@@ -1,5 +1,8 @@
 // Lines of standard input, which is read in pieces.
 use libc::STDIN_FILENO;
+ghost use mathlib.Core.Path.{_≡_};
+ghost use Prim.Native.Nat.{_≤_};
+ghost use lib.ListN.{length};
 
 // The bytes of a piece.
 pub const PIECE: usize = 65536;
@@ -31,7 +34,10 @@ impl Input {
 }
 
 // Takes one byte of a line.
-fn taken(input: Input, byte: u8, line: &mut [u8]) -> Input {
+fn taken(input: Input, byte: u8, line: &mut [u8]) -> Input
+    requires { ⌜ input .count ≤ length (now line) ⌝ }
+    ensures { λ r. ⌜ r .count ≤ length (now (line .entry)) ⌝ }
+{
     let mut next = input;
     let count = next.count;
     if byte == b'\n' {
@@ -48,7 +54,9 @@ fn taken(input: Input, byte: u8, line: &mut [u8]) -> Input {
 }
 
 // Reads the next piece where the last is used up.
-fn filled(input: Input, piece: &mut [u8; PIECE]) -> Input {
+fn filled(input: Input, piece: &mut [u8; PIECE]) -> Input
+    ensures { λ r. ⌜ r .count ≡ input .count ⌝ }
+{
     if input.at < input.end {
         return input;
     }
@@ -60,7 +68,10 @@ fn filled(input: Input, piece: &mut [u8; PIECE]) -> Input {
 }
 
 // Reads one byte; the input's end ends the line.
-fn step(input: Input, piece: &mut [u8; PIECE], line: &mut [u8]) -> Input {
+fn step(input: Input, piece: &mut [u8; PIECE], line: &mut [u8]) -> Input
+    requires { ⌜ input .count ≤ length (now line) ⌝ }
+    ensures { λ r. ⌜ r .count ≤ length (now (line .entry)) ⌝ }
+{
     let mut next = filled(input, &mut *piece);
     let at = next.at;
     if at < next.end {
@@ -76,7 +87,9 @@ fn step(input: Input, piece: &mut [u8; PIECE], line: &mut [u8]) -> Input {
 
 // Reads a line. Its first bytes, as many as the answer counts, stand at the front of `line`. A line has no
 // limit that could be reached; what is left is there for the proof of the end.
-pub fn read_line(input: Input, piece: &mut [u8; PIECE], line: &mut [u8]) -> Input {
+pub fn read_line(input: Input, piece: &mut [u8; PIECE], line: &mut [u8]) -> Input
+    ensures { λ r. ⌜ r .count ≤ length (now (line .entry)) ⌝ }
+{
     let mut next = input;
     next.count = 0;
     next.cut = false;
