@@ -15,7 +15,7 @@
 // place, start and owner of each interval. A place whose two numbers are 0 is left out, and an unused
 // one that is not 0 is there.
 use number_text::Input;
-use number_text::LONGEST;
+use number_text::PIECE;
 use number_text::end_line;
 use number_text::first;
 use number_text::pair;
@@ -172,7 +172,7 @@ fn run(pool: Pool, numbers: &[u64; 16384]) -> Pool {
 fn main() {
     let made = placement::fresh(1, 1);
     let mut pool = made.pool;
-    let mut piece = [0u8; LONGEST];
+    let mut piece = [0u8; PIECE];
     let mut numbers = [0u64; 16384];
     let mut input = Input::new();
     let mut left: u64 = 1000000;

@@ -26,7 +26,7 @@ use crate::words::word;
 use libc::STDOUT_FILENO;
 use lookups::Counters;
 use number_text::Input;
-use number_text::LONGEST;
+use number_text::PIECE;
 use number_text::within;
 use placement::ChangeAnswer;
 use placement::Pool;
@@ -35,6 +35,9 @@ ghost use lib.ListN.{length};
 
 mod printing;
 mod words;
+
+// The most bytes of a line without its end.
+const LONGEST: usize = 65536;
 
 // The most places that are lent, and their numbers.
 pub const PLACES: usize = 8448;
@@ -232,7 +235,7 @@ fn answer(line: &[u8], cut: bool) {
 
 // The number of lines has no limit that could be reached; the count is there for the proof of the end.
 fn main() {
-    let mut piece = [0u8; LONGEST];
+    let mut piece = [0u8; PIECE];
     let mut line = [0u8; LONGEST];
     let mut input = Input::new();
     let mut left: u64 = u64::MAX;

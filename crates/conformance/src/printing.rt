@@ -130,7 +130,7 @@ pub fn copies(answer: CopiesAnswer) {
     let list = answer.owners;
     let counters = answer.counters;
     first(wide32(answer.refusal));
-    number_text::spaced_owners(&list);
+    number_text::spaced_eight(&list);
     spaced(wide32(answer.probes));
     spaced(wide32(counters.lookups));
     spaced(wide32(counters.probes));

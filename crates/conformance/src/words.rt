@@ -1,4 +1,5 @@
 // The words of a line: numbers and bytes.
+use bytes::scan::find;
 ghost use Prim.Native.Nat.{_*_, _≤_};
 ghost use lib.ListN.{length};
 
@@ -16,7 +17,7 @@ fn space(line: &[u8], from: usize) -> usize
     requires { ⌜ from ≤ length (now line) ⌝ }
     ensures { λ r. ⌜ (from ≤ r) × (r ≤ length (now (line .entry))) ⌝ }
 {
-    bytes::scan::find(line, from, line.len(), b' ')
+    find(line, from, line.len(), b' ')
 }
 
 // The place behind the next space, the length where there is none.

@@ -13,7 +13,7 @@
 //                     are answered otherwise
 use images::WriteAnswer;
 use number_text::Input;
-use number_text::LONGEST;
+use number_text::PIECE;
 use number_text::end_line;
 use number_text::first;
 use number_text::least;
@@ -31,6 +31,7 @@ const SIZE: usize = 32768;
 // Stores the numbers of a line, from one place up to another, as bytes, and answers how many.
 fn load(bytes: &mut [u8], numbers: &[u64; 16384], from: usize, to: usize) -> usize
     requires { ⌜ (from ≤ to) × (to ≤ 16384) × (16384 ≤ length (now bytes)) ⌝ }
+    ensures { λ r. ⌜ r ≤ 16384 ⌝ }
 {
     let mut n = 0;
     while n < to - from {
@@ -280,7 +281,7 @@ fn run(numbers: &[u64; 16384], count: usize)
 
 // A line without numbers ends the program.
 fn main() {
-    let mut piece = [0u8; LONGEST];
+    let mut piece = [0u8; PIECE];
     let mut numbers = [0u64; 16384];
     let mut input = Input::new();
     let mut left: u64 = 1000000;

@@ -14,7 +14,7 @@ use lookups::Counters;
 use lookups::OwnerAnswer;
 use lookups::PointAnswer;
 use number_text::Input;
-use number_text::LONGEST;
+use number_text::PIECE;
 use number_text::end_line;
 use number_text::first;
 use number_text::narrow32;
@@ -73,7 +73,7 @@ fn print_copies(answer: CopiesAnswer) {
     let owners = answer.owners;
     let counters = answer.counters;
     first(wide32(answer.refusal));
-    number_text::spaced_owners(&owners);
+    number_text::spaced_eight(&owners);
     spaced(wide32(answer.probes));
     spaced(wide32(counters.lookups));
     spaced(wide32(counters.probes));
@@ -115,7 +115,7 @@ fn run(pool: Pool, numbers: &[u64; 16384]) -> Pool {
 fn main() {
     let made = placement::fresh(1, 1);
     let mut pool = made.pool;
-    let mut piece = [0u8; LONGEST];
+    let mut piece = [0u8; PIECE];
     let mut numbers = [0u64; 16384];
     let mut input = Input::new();
     let mut left: u64 = 1000000;

@@ -6,7 +6,7 @@ mod printing;
 mod widths;
 
 pub use lines::Input;
-pub use lines::LONGEST;
+pub use lines::PIECE;
 pub use lines::finished;
 pub use lines::read_line;
 pub use numbers::read_numbers;
@@ -16,8 +16,8 @@ pub use printing::hexadecimal;
 pub use printing::pair;
 pub use printing::space;
 pub use printing::spaced;
+pub use printing::spaced_eight;
 pub use printing::spaced_list;
-pub use printing::spaced_owners;
 pub use widths::least;
 pub use widths::narrow8;
 pub use widths::narrow16;

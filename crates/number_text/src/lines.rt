@@ -1,8 +1,11 @@
 // Lines of standard input, which is read in pieces.
 use libc::STDIN_FILENO;
+ghost use mathlib.Core.Path.{_≡_};
+ghost use Prim.Native.Nat.{_≤_};
+ghost use lib.ListN.{length};
 
-// The bytes of a piece, and the most of a line of numbers.
-pub const LONGEST: usize = 65536;
+// The bytes of a piece.
+pub const PIECE: usize = 65536;
 
 // Where reading stands: the bytes from `at` to `end` of the piece are still to be taken. Of the line: how
 // many of its bytes, or of its numbers, are stored, whether it has more bytes than were stored, and whether
@@ -31,7 +34,10 @@ impl Input {
 }
 
 // Takes one byte of a line.
-fn taken(input: Input, byte: u8, line: &mut [u8]) -> Input {
+fn taken(input: Input, byte: u8, line: &mut [u8]) -> Input
+    requires { ⌜ input .count ≤ length (now line) ⌝ }
+    ensures { λ r. ⌜ r .count ≤ length (now (line .entry)) ⌝ }
+{
     let mut next = input;
     let count = next.count;
     if byte == b'\n' {
@@ -48,7 +54,9 @@ fn taken(input: Input, byte: u8, line: &mut [u8]) -> Input {
 }
 
 // Reads the next piece where the last is used up.
-fn filled(input: Input, piece: &mut [u8; LONGEST]) -> Input {
+fn filled(input: Input, piece: &mut [u8; PIECE]) -> Input
+    ensures { λ r. ⌜ r .count ≡ input .count ⌝ }
+{
     if input.at < input.end {
         return input;
     }
@@ -60,11 +68,14 @@ fn filled(input: Input, piece: &mut [u8; LONGEST]) -> Input {
 }
 
 // Reads one byte; the input's end ends the line.
-fn step(input: Input, piece: &mut [u8; LONGEST], line: &mut [u8]) -> Input {
+fn step(input: Input, piece: &mut [u8; PIECE], line: &mut [u8]) -> Input
+    requires { ⌜ input .count ≤ length (now line) ⌝ }
+    ensures { λ r. ⌜ r .count ≤ length (now (line .entry)) ⌝ }
+{
     let mut next = filled(input, &mut *piece);
     let at = next.at;
     if at < next.end {
-        if at < LONGEST {
+        if at < PIECE {
             next.at = at + 1;
             return taken(next, piece[at], &mut *line);
         }
@@ -76,7 +87,9 @@ fn step(input: Input, piece: &mut [u8; LONGEST], line: &mut [u8]) -> Input {
 
 // Reads a line. Its first bytes, as many as the answer counts, stand at the front of `line`. A line has no
 // limit that could be reached; what is left is there for the proof of the end.
-pub fn read_line(input: Input, piece: &mut [u8; LONGEST], line: &mut [u8]) -> Input {
+pub fn read_line(input: Input, piece: &mut [u8; PIECE], line: &mut [u8]) -> Input
+    ensures { λ r. ⌜ r .count ≤ length (now (line .entry)) ⌝ }
+{
     let mut next = input;
     next.count = 0;
     next.cut = false;

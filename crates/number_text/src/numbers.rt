@@ -1,13 +1,16 @@
 // The decimal numbers of a line. Any other byte parts two numbers. A number that does not fit is the
 // largest that does.
 use crate::lines::Input;
-use crate::lines::LONGEST;
+use crate::lines::PIECE;
 use crate::lines::read_line;
 use crate::widths::within;
 ghost use mathlib.Core.Path.{_≡_};
 ghost use Prim.Native.Nat.{_+_, _*_, _≤_, min};
 
 const LARGEST: u64 = 18446744073709551615;
+
+// The bytes of 16,384 numbers of 20 digits, with one byte behind each.
+const MOST: usize = 344064;
 
 // How many numbers are stored, the value of the one being read and whether one is.
 struct Reading {
@@ -77,10 +80,10 @@ fn split(line: &[u8], numbers: &mut [u64; 16384]) -> usize {
     reading.count
 }
 
-// Reads a line, of which at most LONGEST bytes are looked at. Its numbers, as many as the answer counts,
-// stand at the front of `numbers`; a line without numbers, and the input's end, count 0.
-pub fn read_numbers(input: Input, piece: &mut [u8; LONGEST], numbers: &mut [u64; 16384]) -> Input {
-    let mut line = [0u8; LONGEST];
+// Reads a line, of which at most MOST bytes are looked at. Its numbers, as many as the answer counts, stand
+// at the front of `numbers`; a line without numbers, and the input's end, count 0.
+pub fn read_numbers(input: Input, piece: &mut [u8; PIECE], numbers: &mut [u64; 16384]) -> Input {
+    let mut line = [0u8; MOST];
     let mut next = read_line(input, &mut *piece, &mut line);
     let n = within(next.count, &line);
     next.count = split(&line[..n], &mut *numbers);

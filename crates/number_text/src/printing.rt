@@ -42,17 +42,17 @@ pub fn spaced_list(list: &[u64], n: usize) {
     }
 }
 
-// Prints eight owners as further numbers of a line.
-pub fn spaced_owners(owners: &[u16; 8]) {
+// Prints eight further numbers of a line.
+pub fn spaced_eight(numbers: &[u16; 8]) {
     let list = [
-        wide16(owners[0]),
-        wide16(owners[1]),
-        wide16(owners[2]),
-        wide16(owners[3]),
-        wide16(owners[4]),
-        wide16(owners[5]),
-        wide16(owners[6]),
-        wide16(owners[7]),
+        wide16(numbers[0]),
+        wide16(numbers[1]),
+        wide16(numbers[2]),
+        wide16(numbers[3]),
+        wide16(numbers[4]),
+        wide16(numbers[5]),
+        wide16(numbers[6]),
+        wide16(numbers[7]),
     ];
     spaced_list(&list, 8);
 }
