@@ -5,7 +5,7 @@
 --   Spelled w v            the word w is one to three digits, and they spell v
 --
 -- Bool: and-false; outside-low, outside-high, outside-right
--- numbers: leading-zero, leading-other, leading-single; number-short, number-long, number-led, number-digits
+-- numbers: leading-low, leading-other, leading-single; number-short, number-long, number-led, number-digits
 -- fractions: fraction-short, fraction-long, fraction-none; spelled-as, spelled-below, fraction-one, fraction-two, fraction-three
 -- capacities: pointed (a text with a point in it is not all digits), capacity-pointed (a first part, and what stands behind the first point);
 --   capacity-none, capacity-whole, capacity-rest, capacity-all; answer-low, answer-high, answer-right
@@ -18,7 +18,7 @@ use native.Mathlib.Nat.{pow-le-pow-right}
 use lib.Dec.{eqb}
 use lib.ListN.{length, getD, take, drop}
 use lib.Seq.{take-length}
-use borrow.Author.Tests.{lt-ltb, le-ltb, eq-eqb, ne-eqb, eqb-true, eqb-false}
+use borrow.Author.Tests.{lt-ltb, le-ltb, lt-leb, ne-eqb, eqb-true, eqb-false}
 use Rattle.slicing.specs.Limits.{maxCapacity, outside}
 use Rattle.history.specs.Cuts.{cutAt}
 use Rattle.history.specs.Lines.{capacityAnswer}
@@ -58,10 +58,15 @@ module _ (k x : ℕ) where
 
 -- ---- numbers
 
-pub leading-zero : (w : List ℕ) → 1 < length w → getD w 0 0 ≡ 48 → leadingZero w ≡ true
-leading-zero [] h e = absurd (omega arith)
-leading-zero (b ∷ []) h e = absurd (omega arith)
-leading-zero (b ∷ c ∷ bs) h e = eq-eqb b 48 e
+-- a first byte up to `0`, with more behind it, is a leading zero or no digit
+leading-low : (s : Bool) (w : List ℕ) → 1 < length w → getD w 0 0 ≤ 48 → s && not (leadingZero w) && allDigits w ≡ false
+leading-low s [] h l = absurd (omega arith)
+leading-low s (b ∷ []) h l = absurd (omega arith)
+leading-low s (b ∷ c ∷ bs) h l = go (eqb b 48) refl
+  where
+    go : (t : Bool) → eqb b 48 ≡ t → s && not (leadingZero (b ∷ c ∷ bs)) && allDigits (b ∷ c ∷ bs) ≡ false
+    go true e = rw (e, and-false s)
+    go false e = rw (lt-leb 48 b (omega (arith, eqb-false b 48 e))) (and-false (s && not (eqb b 48)))
 
 pub leading-other : (w : List ℕ) → 1 < length w → (getD w 0 0 ≡ 48 → ⊥) → leadingZero w ≡ false
 leading-other [] h e = absurd (omega arith)
@@ -84,21 +89,19 @@ module _ (w : List ℕ) where
   pub number-short : length w < 1 → NumberRead w Shapeless
   number-short h = none (rw (outside-low 10 (length w) h))
 
-  module _ (l : 1 ≤ length w) where
-    pub number-long : 10 < length w → NumberRead w Shapeless
-    number-long h = none (rw (outside-high 10 (length w) l h))
+  pub number-long : 10 < length w → NumberRead w Shapeless
+  number-long h = none (rw (outside-high 10 (length w) (omega arith) h))
 
-    module _ (m : length w ≤ 10) where
-      pub number-led : leadingZero w ≡ true → NumberRead w Shapeless
-      number-led z = none (rw (outside-right 10 (length w) l m, z))
+  pub number-led : 1 < length w → getD w 0 0 ≤ 48 → NumberRead w Shapeless
+  number-led h l = none (leading-low (not (outside 10 (length w))) w h l)
 
-      pub number-digits : leadingZero w ≡ false → (r : Parsed) → Answered w r → NumberRead w r
-      unfolding numberIn
-      number-digits z r a =
-          let e : isNumber w ≡ allDigits w = rw (outside-right 10 (length w) l m, z) in (
-            rw e (a .0),
-            λ n k. omega (arith, a .1 n k, pow-le-pow-right {n = 10} (omega arith) {i = length w} {j = 10} m),
-          )
+  pub number-digits : 1 ≤ length w → length w ≤ 10 → leadingZero w ≡ false → (r : Parsed) → Answered w r → NumberRead w r
+  unfolding numberIn
+  number-digits l m z r a =
+      let e : isNumber w ≡ allDigits w = rw (outside-right 10 (length w) l m, z) in (
+        rw e (a .0),
+        λ n k. omega (arith, a .1 n k, pow-le-pow-right {n = 10} (omega arith) {i = length w} {j = 10} m),
+      )
 
 -- ---- fractions
 
@@ -224,9 +227,8 @@ module _ (v : ℕ) where
   pub answer-low : v < 1 → Capacity.Refused 2 ≡ capacityAnswer (Number v)
   answer-low h = rw (outside-low maxCapacity v h)
 
-  module _ (l : 1 ≤ v) where
-    pub answer-high : maxCapacity < v → Capacity.Refused 2 ≡ capacityAnswer (Number v)
-    answer-high h = rw (outside-high maxCapacity v l h)
+  pub answer-high : maxCapacity < v → Capacity.Refused 2 ≡ capacityAnswer (Number v)
+  answer-high h = rw (outside-high maxCapacity v (omega arith) h)
 
-    pub answer-right : v ≤ maxCapacity → Capacity.Thousandths v ≡ capacityAnswer (Number v)
-    answer-right h = rw (outside-right maxCapacity v l h)
+  pub answer-right : 1 ≤ v → v ≤ maxCapacity → Capacity.Thousandths v ≡ capacityAnswer (Number v)
+  answer-right l h = rw (outside-right maxCapacity v l h)

@@ -2,6 +2,7 @@
 use mathlib.Core.Path.{sym, _∙_}
 use mathlib.Core.List.{List}
 use Prim.Native.Nat.{ℕ}
+use native.Mathlib.Omega.{arith}
 use borrow.Author.Needs.{needs}
 use Rattle.history.specs.Text.{space}
 use Rattle.history.proofs.Splitting.{part-front, behind, Cut, cut-made}
@@ -16,7 +17,7 @@ abbrev rest : tie.After-find → List ℕ
 rest f = behind (text f) (f .find .result)
 
 first : (e : tie.Else1) → Cut space (text (e .before)) (e .before .find .result) (rest (e .before))
-first e = cut-made space (text (e .before)) (e .before .find .result) (e .before .find .ensures) (e .if1 .left)
+first e = cut-made space (text (e .before)) (e .before .find .result) (e .before .find .ensures) (λ q. omega (arith, q, e .if1 .left))
 
 second : (w : tie.Else2) → let ys = rest (w .before .before .before .before) in Cut space ys (w .before .find2 .result) (behind ys (w .before .find2 .result))
 second w = cut-made space (rest (w .before .before .before .before)) (w .before .find2 .result) (w .before .find2 .ensures) (w .if2 .left)

@@ -1,5 +1,6 @@
 -- `history::numbers::capacity` meets its contract: the tests are those of `outside`, in their order.
 use mathlib.Core.Path.{_≡_, sym, ap, _∙_}
+use native.Mathlib.Omega.{arith}
 use borrow.Author.Needs.{needs}
 use Rattle.history.specs.Lines.{capacityAnswer}
 use Rattle.history.specs.Text.{capacityIn}
@@ -28,7 +29,7 @@ returns-2 : tie.Need-returns-2
 returns-2 c = answer-low _ (c .if1 .taken) ∙ told (c .before .before)
 
 returns-3 : tie.Need-returns-3
-returns-3 c = answer-high _ (c .before .if1 .left) (c .if2 .taken) ∙ told (c .before .before .before)
+returns-3 c = answer-high (c .before .before .before .value .given .0 .0) (omega (arith, c .if2 .taken)) ∙ told (c .before .before .before)
 
 returns-4 : tie.Need-returns-4
 returns-4 c = answer-right _ (c .before .if1 .left) (c .if2 .left) ∙ told (c .before .before .before)

@@ -2,9 +2,10 @@
 use mathlib.Core.Path.{_≡_}
 use mathlib.Core.Bool.{false}
 use mathlib.Core.Logic.{⊎-elim}
+use native.Mathlib.Omega.{arith}
 use borrow.Author.Needs.{needs}
 use Rattle.history.specs.Text.{leadingZero}
-use Rattle.history.proofs.NumberWords.{leading-zero, leading-other, leading-single, number-short, number-long, number-led, number-digits}
+use Rattle.history.proofs.NumberWords.{leading-other, leading-single, number-short, number-long, number-led, number-digits}
 use Rattle.history.proofs.numbers.number.Statement.{statement}
 use Rattle.history.proofs.numbers.number.Tie as tie
 
@@ -12,7 +13,7 @@ returns : tie.Need-returns
 returns c = number-short (c .before .before .args .word .now) (c .if1 .taken)
 
 returns-2 : tie.Need-returns-2
-returns-2 c = number-long (c .before .before .before .args .word .now) (c .before .if1 .left) (c .if2 .taken)
+returns-2 c = number-long (c .before .before .before .args .word .now) (omega (arith, c .if2 .taken))
 
 shared-slice-read-if4 : tie.Need-shared-slice-read-if4
 shared-slice-read-if4 c = search needs
@@ -20,8 +21,7 @@ shared-slice-read-if4 c = search needs
 returns-3 : tie.Need-returns-3
 returns-3 c =
     let s = c .before .before .before in
-    let w = s .before .before .before .args .word .now in
-    number-led w (s .before .if1 .left) (s .if2 .left) (leading-zero w (c .before .before .if3 .taken) (c .if4 .taken))
+    number-led (s .before .before .before .args .word .now) (c .before .before .if3 .taken) (omega (arith, c .if4 .taken))
 
 digits-requires : tie.Need-digits-requires
 digits-requires c κs = search needs

@@ -27,7 +27,7 @@ small v = v .before .before .number .ensures .1 (v .whole .given .0 .0) (v .whol
 cut : (s : tie.Else1) → let f = found (s .before .before) in Cut point (word f) (f .find .result) (behind (word f) (f .find .result))
 cut s =
     let f = found (s .before .before) in
-    cut-made point (word f) (f .find .result) (f .find .ensures) (s .if1 .left)
+    cut-made point (word f) (f .find .result) (f .find .ensures) (λ e. omega (arith, e, s .if1 .left))
 
 find-requires : tie.Need-find-requires
 find-requires c κs = search needs
