@@ -87,8 +87,8 @@ pub extern "C" fn gorvyts_transcript(text: &[u8], out: &mut [u8], answer: &mut [
         return 17;
     }
     match history::transcript(text, &mut *out) {
-        TranscriptAnswer::Printed(size) => {
-            put1(&mut *answer, size as u64);
+        TranscriptAnswer::Printed(printed) => {
+            put1(&mut *answer, printed as u64);
             0
         }
         TranscriptAnswer::Refused(refusal) => {

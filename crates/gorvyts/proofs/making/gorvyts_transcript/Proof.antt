@@ -12,8 +12,8 @@ returns c =
 transcript-requires : tie.Need-transcript-requires
 transcript-requires c κs = search needs
 
-enum-known-size : tie.Need-enum-known-size
-enum-known-size c = search needs
+enum-known-printed : tie.Need-enum-known-printed
+enum-known-printed c = search needs
 
 put1-requires : tie.Need-put1-requires
 put1-requires c κs = search needs
@@ -38,7 +38,7 @@ returns-2 c =
     let t = w .before .before in
     let s = t .before .before .before .before in
     transcript-whole (s .args .text .now) (s .args .out .now) _ (s .args .answer .now) _ _ _ (w .transcript .ensures) (t .if1 .left)
-    (v .size .given .1) (put .put1 .ensures)
+    (v .printed .given .1) (put .put1 .ensures)
 
 same-length-3 : tie.Need-same-length-3
 same-length-3 c = search needs
@@ -62,7 +62,7 @@ gorvyts-transcript-spec =
     (tie.spec
     returns
     transcript-requires
-    enum-known-size
+    enum-known-printed
     put1-requires
     enum-known-refusal
     put1-requires-2
