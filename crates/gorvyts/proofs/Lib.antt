@@ -3,6 +3,5 @@ pub mod OnImages
 pub mod StoredPools
 pub mod ToldOwners
 pub mod MovedLists
-pub mod ArrayLengths
 pub mod CopiedRows
 pub mod CopiedCalls

@@ -21,7 +21,7 @@ fn wide16(x: u16) -> u32
 
 // Puts eight owners behind the number of a row.
 fn put_owners(row: &mut [u32], owners: &[u16; 8])
-    requires { ⌜ 10 ≤ length (now row) ⌝ }
+    requires { ⌜ (10 ≤ length (now row)) × (length (now owners) ≡ 8) ⌝ }
     ensures { λ r. ⌜ now (row .exit) ≡ take 1 (now (row .entry)) ++ now (owners .entry) ++ drop 9 (now (row .entry)) ⌝ }
 {
     let mut i = 0;

@@ -10,7 +10,10 @@ slice-write-row : tie.Need-slice-write-row
 slice-write-row c = search needs
 
 put-owners-requires : tie.Need-put-owners-requires
-put-owners-requires c κs = search needs
+put-owners-requires c κs =
+    let s = c .before .before .before .before in
+    let l : length (s .args .answer .owners) ≡ 8 = search needs in
+    (simp length-set (s .pre), l)
 
 slice-write-row-2 : tie.Need-slice-write-row-2
 slice-write-row-2 c = search needs
