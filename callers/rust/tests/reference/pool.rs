@@ -141,7 +141,8 @@ impl Pool {
     /// The six steps from these devices to those given, then 8 and 9.
     fn sliced(&self, devices: Vec<Device>, places: usize) -> Result<Changed, u32> {
         let mut pool = Pool { devices, table: Vec::new(), ..*self };
-        let parts = filled(self.parts(&pool), self.needs(&pool));
+        let (old, new) = (self.share_of_id(), pool.share_of_id());
+        let parts = filled(parts(&self.table, reductions(&old, &new)), reductions(&new, &old));
         pool.table = joined(&parts);
         let moves = moves(&parts);
         if pool.table.len() as u64 > pool.limit {
@@ -152,65 +153,6 @@ impl Pool {
         }
         let moved = moves.iter().map(|m| m.length).sum();
         Ok(Changed { pool, moves, moved })
-    }
-
-    /// Step 1, what each device must release.
-    fn reductions(&self, after: &Pool) -> BTreeMap<u64, u64> {
-        let new = after.share_of_id();
-        let old = self.share_of_id().into_iter();
-        old.map(|(id, s)| (id, s.saturating_sub(*new.get(&id).unwrap_or(&0)))).collect()
-    }
-
-    /// Step 1, the devices in need by rising id, and what they need.
-    fn needs(&self, after: &Pool) -> Vec<(u64, u64)> {
-        let old = self.share_of_id();
-        let new = after.share_of_id().into_iter();
-        new.map(|(id, s)| (id, s.saturating_sub(*old.get(&id).unwrap_or(&0))))
-            .filter(|&(_, need)| need > 0)
-            .collect()
-    }
-
-    /// Steps 2 to 4: the table in parts that are taken or kept.
-    fn parts(&self, after: &Pool) -> Vec<Part> {
-        let mut release = self.reductions(after);
-        let mut flag = Side::End;
-        let mut last_gap_end = None;
-        let mut parts = Vec::new();
-        for &Interval { start, length, owner } in &self.table {
-            let left = release.get_mut(&owner).unwrap();
-            let end = start + length;
-            if *left == 0 {
-                parts.push(Part::kept(start, end, owner));
-            } else if length <= *left {
-                parts.push(Part::taken(start, end, owner));
-                *left -= length;
-                flag = Side::Start;
-                last_gap_end = Some(end);
-            } else {
-                let cut = *left;
-                *left = 0;
-                let side = if last_gap_end == Some(start) {
-                    Side::Start
-                } else {
-                    let named = flag;
-                    flag = flag.other();
-                    named
-                };
-                match side {
-                    Side::Start => {
-                        parts.push(Part::taken(start, start + cut, owner));
-                        parts.push(Part::kept(start + cut, end, owner));
-                        last_gap_end = Some(start + cut);
-                    }
-                    Side::End => {
-                        parts.push(Part::kept(start, end - cut, owner));
-                        parts.push(Part::taken(end - cut, end, owner));
-                        last_gap_end = Some(end);
-                    }
-                }
-            }
-        }
-        parts
     }
 }
 
@@ -256,9 +198,58 @@ impl Part {
     }
 }
 
+/// Step 1: by how much a device has more by the first shares than by the second. From old to new it is what
+/// each must release, from new to old what each needs.
+fn reductions(first: &BTreeMap<u64, u64>, second: &BTreeMap<u64, u64>) -> BTreeMap<u64, u64> {
+    let by_the_second = |id| second.get(id).copied().unwrap_or(0);
+    first.iter().map(|(id, share)| (*id, share.saturating_sub(by_the_second(id)))).collect()
+}
+
+/// Steps 2 to 4: the table in parts that are taken or kept.
+fn parts(table: &[Interval], mut release: BTreeMap<u64, u64>) -> Vec<Part> {
+    let mut flag = Side::End;
+    let mut last_gap_end = None;
+    let mut parts = Vec::new();
+    for &Interval { start, length, owner } in table {
+        let left = release.get_mut(&owner).unwrap();
+        let end = start + length;
+        if *left == 0 {
+            parts.push(Part::kept(start, end, owner));
+        } else if length <= *left {
+            parts.push(Part::taken(start, end, owner));
+            *left -= length;
+            flag = Side::Start;
+            last_gap_end = Some(end);
+        } else {
+            let cut = *left;
+            *left = 0;
+            let side = if last_gap_end == Some(start) {
+                Side::Start
+            } else {
+                let named = flag;
+                flag = flag.other();
+                named
+            };
+            match side {
+                Side::Start => {
+                    parts.push(Part::taken(start, start + cut, owner));
+                    parts.push(Part::kept(start + cut, end, owner));
+                    last_gap_end = Some(start + cut);
+                }
+                Side::End => {
+                    parts.push(Part::kept(start, end - cut, owner));
+                    parts.push(Part::taken(end - cut, end, owner));
+                    last_gap_end = Some(end);
+                }
+            }
+        }
+    }
+    parts
+}
+
 /// Step 5: the taken points, from the lowest, go to the devices in need, each until it has what it needs.
-fn filled(parts: Vec<Part>, needs: Vec<(u64, u64)>) -> Vec<Part> {
-    let mut needs = needs.into_iter();
+fn filled(parts: Vec<Part>, needs: BTreeMap<u64, u64>) -> Vec<Part> {
+    let mut needs = needs.into_iter().filter(|&(_, need)| need > 0);
     let mut now = needs.next();
     let mut out = Vec::new();
     for part in parts {
