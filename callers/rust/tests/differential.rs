@@ -15,12 +15,12 @@ use std::env;
 use std::fmt::Debug;
 
 use gorvyts::calls;
-use inputs::pools::{alternating, composed, Change, Plan};
+use inputs::pools::{alternating, composed, swept, Change, Plan};
 use inputs::{images, pools, texts, Random};
 use reference::calls as expected;
 use reference::history;
 use reference::image;
-use reference::pool::{Pool, LIMIT_MOST, RANGE_MOST};
+use reference::pool::{Pool, DEVICES_MOST, LIMIT_MOST, RANGE_MOST};
 
 const SEED: u64 = 20_180_401;
 const ROUNDS: u64 = 150;
@@ -47,6 +47,7 @@ fn every_call_is_the_reference() {
         trial.fresh_pools(random);
         trial.list_of_changes(random);
         trial.given_pools(random);
+        trial.swept_pools(random);
         trial.histories(random);
     }
     trial.print();
@@ -154,6 +155,9 @@ struct Trial {
     place: String,
     made: u64,
     occurred: BTreeMap<(&'static str, u32), u64>,
+    most_devices: usize,
+    most_intervals: usize,
+    most_moves: usize,
     differences: Vec<String>,
 }
 
@@ -227,6 +231,13 @@ impl Trial {
         }
     }
 
+    /// A change with more moves than the pool has intervals.
+    fn swept_pools(&mut self, random: &mut Random) {
+        let (pool, change) = swept(random);
+        assert_eq!(self.check(&image::write(&pool)), 0);
+        self.change_near(random, &pool, change);
+    }
+
     fn histories(&mut self, random: &mut Random) {
         for _ in 0..10 {
             let text = texts::text(random);
@@ -252,12 +263,18 @@ impl Trial {
         self.transcript(random, text, out, answer);
     }
 
-    /// A change, with buffers of a size near that needed; then, where one of them was too short, with long ones.
-    /// The pool after it, if it is another.
+    /// A change of the plan. The pool after it, if it is another.
     fn step(&mut self, random: &mut Random, plan: &Plan, pool: &Pool) -> Option<Pool> {
         let ids: Vec<u64> = pool.devices.iter().map(|device| device.id).collect();
         let change = plan.change(random, &ids);
+        self.change_near(random, pool, change)
+    }
+
+    /// A change, with buffers of a size near that needed; then, where one of them was too short, with long ones.
+    /// The pool after it, if it is another.
+    fn change_near(&mut self, random: &mut Random, pool: &Pool, change: Change) -> Option<Pool> {
         let bytes = image::write(pool);
+        self.most(pool, 0);
         let places = usize::MAX;
         let result = match change {
             Change::Add(id, capacity) => pool.add(id, capacity, places),
@@ -265,7 +282,10 @@ impl Trial {
             Change::Resize(id, capacity) => pool.resize(id, capacity, places),
         };
         let (image, list) = match &result {
-            Ok(changed) => (image::write(&changed.pool).len(), 4 * changed.moves.len()),
+            Ok(changed) => {
+                self.most(&changed.pool, changed.moves.len());
+                (image::write(&changed.pool).len(), 4 * changed.moves.len())
+            }
             Err(_) => (bytes.len(), 8),
         };
         let near = Sizes {
@@ -566,6 +586,12 @@ impl Trial {
         theirs
     }
 
+    fn most(&mut self, pool: &Pool, moves: usize) {
+        self.most_devices = self.most_devices.max(pool.devices.len());
+        self.most_intervals = self.most_intervals.max(pool.table.len());
+        self.most_moves = self.most_moves.max(moves);
+    }
+
     fn count(&mut self, call: &'static str, number: u32) {
         *self.occurred.entry((call, number)).or_default() += 1;
     }
@@ -583,6 +609,10 @@ impl Trial {
         }
         let counts: Vec<String> = each.iter().map(|(number, count)| format!("{number}: {count}")).collect();
         println!("differential, all: {}", counts.join(", "));
+        println!(
+            "differential, at most: {} devices, {} intervals, {} moves",
+            self.most_devices, self.most_intervals, self.most_moves
+        );
         println!("differential: {} calls compared, {} differences", self.made, self.differences.len());
         for difference in self.differences.iter().take(TOLD) {
             println!("differs: {difference}");
@@ -590,6 +620,9 @@ impl Trial {
     }
 
     fn assert_all_occurred(&self) {
+        assert_eq!(self.most_devices, DEVICES_MOST);
+        assert_eq!(self.most_intervals as u64, LIMIT_MOST);
+        assert!(self.most_moves as u64 > LIMIT_MOST);
         for (call, numbers) in CAN_OCCUR {
             for &number in numbers {
                 let count = self.occurred.get(&(call, number)).copied().unwrap_or(0);

@@ -177,6 +177,38 @@ pub fn alternating(intervals: u64) -> Pool {
     Pool { range: intervals, limit: intervals, devices, table }
 }
 
+/// A pool of 4,096 intervals and an add that takes from each of them: a device's short intervals come first, the
+/// long rest of its share last. As the large devices are equal, those of the least capacity may all gain a point;
+/// then there are more moves than intervals.
+pub fn swept(random: &mut Random) -> (Pool, Change) {
+    let range = random.between(200_000, 400_000);
+    let capacity = random.between(2_000, 4_000);
+    let devices: Vec<Device> = (1..=240)
+        .map(|i| Device { id: 200 * i + random.below(200), capacity: if i % 6 == 0 { 1 } else { capacity } })
+        .collect();
+    let share_of: BTreeMap<u64, u64> =
+        devices.iter().map(|device| device.id).zip(shares(range, &devices)).collect();
+    let mut large: Vec<u64> = share_of.keys().copied().filter(|id| share_of[id] > 10).collect();
+    let small: Vec<u64> = share_of.keys().copied().filter(|id| (1..=10).contains(&share_of[id])).collect();
+    random.shuffle(&mut large);
+    let short = LIMIT_MOST as usize - large.len() - small.len();
+    let mut left = share_of.clone();
+    let mut pieces: Vec<(u64, u64)> = Vec::new();
+    for &owner in large.iter().cycle().take(short) {
+        let length = random.between(1, 8);
+        pieces.push((owner, length));
+        *left.get_mut(&owner).unwrap() -= length;
+    }
+    // After a piece of another device, so that no two are joined.
+    let next = pieces.len() % large.len();
+    large.rotate_left(next);
+    pieces.extend(large.iter().chain(&small).map(|&owner| (owner, left[&owner])));
+    let sum: u64 = devices.iter().map(|device| device.capacity).sum();
+    let id = random.pick(&[7, 60_000]);
+    let pool = Pool { range, limit: LIMIT_MOST, devices, table: in_a_row(pieces) };
+    (pool, Change::Add(id, sum * random.between(30, 40) / 100))
+}
+
 /// The shares in pieces of any length and order, at most 4,096 of them.
 fn pieces(random: &mut Random, range: u64, devices: &[Device]) -> Vec<Interval> {
     if devices.is_empty() {
@@ -200,6 +232,11 @@ fn pieces(random: &mut Random, range: u64, devices: &[Device]) -> Vec<Interval> 
         }
     }
     random.shuffle(&mut pieces);
+    in_a_row(pieces)
+}
+
+/// The table of owners and lengths from point 0 on, neighbours with one owner joined.
+fn in_a_row(pieces: Vec<(u64, u64)>) -> Vec<Interval> {
     let mut table: Vec<Interval> = Vec::new();
     let mut start = 0;
     for (owner, length) in pieces {
