@@ -152,8 +152,11 @@ struct Sizes {
 
 #[derive(Default)]
 struct Trial {
+    /// The seed and round that are tried.
     place: String,
+    /// How many calls were compared.
     made: u64,
+    /// How often the reference gave a number for a call.
     occurred: BTreeMap<(&'static str, u32), u64>,
     most_devices: usize,
     most_intervals: usize,
@@ -231,7 +234,7 @@ impl Trial {
         }
     }
 
-    /// A change with more moves than the pool has intervals.
+    /// A change that may have more moves than the pool has intervals.
     fn swept_pools(&mut self, random: &mut Random) {
         let (pool, change) = swept(random);
         assert_eq!(self.check(&image::write(&pool)), 0);
@@ -243,7 +246,7 @@ impl Trial {
             let text = texts::text(random);
             self.history(random, &text);
         }
-        if random.one_in(5) {
+        if random.one_in(4) {
             let text = texts::long_text(random);
             self.history(random, &text);
         }
@@ -270,7 +273,7 @@ impl Trial {
         self.change_near(random, pool, change)
     }
 
-    /// A change, with buffers of a size near that needed; then, where one of them was too short, with long ones.
+    /// A change, with buffers of a size near that needed; where one was too short, now and then with long ones.
     /// The pool after it, if it is another.
     fn change_near(&mut self, random: &mut Random, pool: &Pool, change: Change) -> Option<Pool> {
         let bytes = image::write(pool);
