@@ -1,0 +1,71 @@
+/* Replays a history, asks for owners and copies, adds a device and lists the moves. */
+#include <inttypes.h>
+#include <stdio.h>
+#include <string.h>
+
+#include "gorvyts.h"
+
+static const char history[] =
+    "range 100 16\n"
+    "add 1 1.000\n"
+    "add 2 1\n"
+    "add 3 1.0\n"
+    "add 3 3,2\n"
+    "remove 2\n"
+    "resize 3 3\n";
+
+static uint8_t image[GORVYTS_IMAGE_MOST];
+static uint8_t next[GORVYTS_IMAGE_MOST];
+static uint8_t out[GORVYTS_TRANSCRIPT_ROOM];
+static uint64_t list[4 * GORVYTS_MOVES_MOST];
+
+static const char *sentence(uint32_t number)
+{
+    switch (number) {
+    case 0: return "accepted";
+    case GORVYTS_ID_PRESENT: return "the device to add is present";
+    case GORVYTS_POINT_PAST_RANGE: return "the point is at or above the range";
+    default: return "refused";
+    }
+}
+
+int main(void)
+{
+    uint64_t answer[3];
+    uint32_t tally[2] = {0, 0}, row[10], number;
+
+    if (gorvyts_transcript((const uint8_t *)history, strlen(history), out, sizeof out, answer, 3) != 0)
+        return 1;
+    fwrite(out, 1, answer[0], stdout);
+
+    if (gorvyts_replay((const uint8_t *)history, strlen(history), image, sizeof image, answer, 3) != 0)
+        return 1;
+    size_t length = answer[0];
+    printf("image of %zu bytes\n", length);
+
+    for (uint64_t point = 0; point <= 100; point += 25) {
+        number = gorvyts_owner(image, length, point, answer, 3);
+        if (number == 0)
+            printf("point %" PRIu64 ": device %" PRIu64 "\n", point, answer[0]);
+        else
+            printf("point %" PRIu64 ": %" PRIu32 ", %s\n", point, number, sentence(number));
+    }
+
+    if (gorvyts_copies(image, length, 7, 2, tally, 2, row, 10) != 0)
+        return 1;
+    printf("block 7: devices %" PRIu32 " and %" PRIu32 ", probes %" PRIu32 "\n", row[1], row[2], row[9]);
+    printf("tally: lookups %" PRIu32 ", probes %" PRIu32 "\n", tally[0], tally[1]);
+
+    number = gorvyts_add(image, length, 3, 2000, next, sizeof next, list, sizeof list / sizeof *list, answer, 3);
+    printf("add 3: %" PRIu32 ", %s\n", number, sentence(number));
+
+    number = gorvyts_add(image, length, 4, 2000, next, sizeof next, list, sizeof list / sizeof *list, answer, 3);
+    if (number != 0)
+        return 1;
+    printf("add 4: %" PRIu64 " points in %" PRIu64 " moves\n", answer[1], answer[2]);
+    for (uint64_t i = 0; i < answer[2]; i++)
+        printf("%" PRIu64 " %" PRIu64 ": %" PRIu64 " to %" PRIu64 "\n",
+               list[4 * i], list[4 * i + 1], list[4 * i + 2], list[4 * i + 3]);
+    printf("image of %" PRIu64 " bytes\n", answer[0]);
+    return 0;
+}

@@ -1,0 +1,97 @@
+/* Calls of libgorvyts.a, for x86-64: the placement of a recorder pool, as document 01 has it.
+ *
+ * A pool is given by the bytes of its image, and a call that makes or changes one leaves the bytes of
+ * its image in a lent buffer; nothing is held between two calls. A buffer is a pointer and a count of
+ * elements; the pointer is never null, the buffers of one call do not overlap, and beyond the count
+ * nothing is read or written. A call takes any numbers and any bytes, and returns 0 or a refusal number.
+ *
+ * Results stand in the first places of `answer` (or `row`); on a refusal those places are zeros. Where
+ * there are too few places the call returns 17 and writes nothing at all. Beside those places a refused
+ * call writes nothing: buffers, list and tally stay as lent. Bytes past a written image stay, and so do
+ * the places of a list past its moves.
+ */
+#ifndef GORVYTS_H
+#define GORVYTS_H
+
+#include <stddef.h>
+#include <stdint.h>
+
+#ifdef __cplusplus
+extern "C" {
+#endif
+
+enum {
+    GORVYTS_LINE_SHAPE = 1,       /* a line is not one of the four shapes */
+    GORVYTS_OUTSIDE_LIMITS = 2,   /* a number outside its limits, or too many bytes */
+    GORVYTS_LINE_ORDER = 3,       /* a change before a range line, or a second range line */
+    GORVYTS_ID_PRESENT = 4,       /* add: the id is present */
+    GORVYTS_ID_ABSENT = 5,        /* remove, resize: the id is absent */
+    GORVYTS_TOO_MANY_DEVICES = 6, /* add: 256 devices are present */
+    GORVYTS_ONLY_DEVICE = 7,      /* remove: it is the only device */
+    GORVYTS_TOO_MANY_INTERVALS = 8, /* a change: the new table has over M intervals */
+    GORVYTS_TOO_MANY_MOVES = 9,   /* a change: more moves than places in the list */
+    GORVYTS_NO_DEVICE = 10,       /* copies, owner: no device is present */
+    GORVYTS_COPIES_COUNT = 11,    /* copies: k is 0 or above 8 */
+    GORVYTS_TOO_FEW_OWNERS = 12,  /* copies: fewer than k different owners in 256 probes */
+    GORVYTS_POINT_PAST_RANGE = 13, /* owner: the point is at or above R */
+    GORVYTS_NO_IMAGE = 14,        /* an image: under 19 bytes, or another mark */
+    GORVYTS_OTHER_VERSION = 15,   /* an image: another version */
+    GORVYTS_FAULTY_IMAGE = 16,    /* an image: any other fault */
+    GORVYTS_BUFFER_TOO_SHORT = 17 /* a buffer, a row or an answer is too short */
+};
+
+/* The bytes of the largest image; the bytes that every transcript fits in; the most moves of a change. */
+#define GORVYTS_IMAGE_MOST 26131
+#define GORVYTS_TRANSCRIPT_ROOM 3145728
+#define GORVYTS_MOVES_MOST 8448
+
+/* Whether the bytes are the image of a pool: 0, 14, 15 or 16. */
+uint32_t gorvyts_check(const uint8_t *image, size_t image_size);
+
+/* The image of a fresh pool of range R and interval limit M. answer[0]: its length.
+ * Refusals: 2, 17. */
+uint32_t gorvyts_fresh(uint64_t range, uint64_t limit, uint8_t *image, size_t image_size, uint64_t *answer, size_t answer_size);
+
+/* The image of the pool that a history leaves; lines that are refused change nothing. answer[0]: its length.
+ * Refusals: 2 for more than 65,536 bytes, 17. */
+uint32_t gorvyts_replay(const uint8_t *text, size_t text_size, uint8_t *image, size_t image_size, uint64_t *answer, size_t answer_size);
+
+/* What `slices` prints of a history: what became of each line, and the table. answer[0]: its length.
+ * Refusals: 17 for a buffer of less than GORVYTS_TRANSCRIPT_ROOM bytes. */
+uint32_t gorvyts_transcript(const uint8_t *text, size_t text_size, uint8_t *out, size_t out_size, uint64_t *answer, size_t answer_size);
+
+/* Changes: from the image of a pool to that of the changed pool, in `next`. The moves go to `list`, four
+ * numbers each: start, length, old owner, new owner; list_size counts numbers, so that it has
+ * list_size / 4 places. Capacities are in thousandths of a TB. answer[0]: the length of the new image,
+ * answer[1]: the moved points, answer[2]: the number of moves.
+ * Refusals: 14, 15, 16; 2, 4, 6, 8, 9 of an add; 2, 5, 7, 8, 9 of a remove; 2, 5, 8, 9 of a resize; 17. */
+uint32_t gorvyts_add(const uint8_t *image, size_t image_size, uint64_t id, uint64_t capacity,
+                     uint8_t *next, size_t next_size, uint64_t *list, size_t list_size, uint64_t *answer, size_t answer_size);
+uint32_t gorvyts_remove(const uint8_t *image, size_t image_size, uint64_t id,
+                        uint8_t *next, size_t next_size, uint64_t *list, size_t list_size, uint64_t *answer, size_t answer_size);
+uint32_t gorvyts_resize(const uint8_t *image, size_t image_size, uint64_t id, uint64_t capacity,
+                        uint8_t *next, size_t next_size, uint64_t *list, size_t list_size, uint64_t *answer, size_t answer_size);
+
+/* The owner of a point. answer[0]: its id.
+ * Refusals: 14, 15, 16, 13, 10, 17. */
+uint32_t gorvyts_owner(const uint8_t *image, size_t image_size, uint64_t point, uint64_t *answer, size_t answer_size);
+
+/* The k devices that hold the copies of a block. row[0]: the number that is returned, row[1] to row[8]: the
+ * owners in their order and then zeros, row[9]: the probes made, 256 where 12 is returned. The tally is
+ * two numbers, lookups and probes; an accepted lookup is added, and both stay at 4,294,967,295.
+ * Refusals: 14, 15, 16, 11, 10, 12; 17 where the tally has under 2 places or the row under 10. */
+uint32_t gorvyts_copies(const uint8_t *image, size_t image_size, uint64_t block, uint64_t k,
+                        uint32_t *tally, size_t tally_size, uint32_t *row, size_t row_size);
+
+/* The same for many blocks, one after another, with ten numbers for each in `rows`. Returns 0 though rows may
+ * hold refusals.
+ * Refusals: 14, 15, 16; 17 where the tally has under 2 places or there are under 10 numbers for each block;
+ * then rows and tally stay. */
+uint32_t gorvyts_copies_of_many(const uint8_t *image, size_t image_size, const uint64_t *blocks, size_t blocks_size, uint64_t k,
+                                uint32_t *tally, size_t tally_size, uint32_t *rows, size_t rows_size);
+
+#ifdef __cplusplus
+}
+#endif
+
+#endif

@@ -1,0 +1,268 @@
+//! The calls of libgorvyts.a, declared as `gorvyts.h` has them, and for each a function over slices. No
+//! other module has unsafe code.
+//!
+//! The header asks that pointers are not null, that a count is not above the elements behind its pointer,
+//! and that the buffers of a call do not overlap. The pointer of a slice is never null, even of an empty one;
+//! a `&mut` slice overlaps with no other; and the library holds no pointer after a call.
+
+#![allow(unsafe_code)]
+
+extern "C" {
+    fn gorvyts_check(image: *const u8, image_size: usize) -> u32;
+
+    fn gorvyts_fresh(
+        range: u64,
+        limit: u64,
+        image: *mut u8,
+        image_size: usize,
+        answer: *mut u64,
+        answer_size: usize,
+    ) -> u32;
+
+    fn gorvyts_replay(
+        text: *const u8,
+        text_size: usize,
+        image: *mut u8,
+        image_size: usize,
+        answer: *mut u64,
+        answer_size: usize,
+    ) -> u32;
+
+    fn gorvyts_transcript(
+        text: *const u8,
+        text_size: usize,
+        out: *mut u8,
+        out_size: usize,
+        answer: *mut u64,
+        answer_size: usize,
+    ) -> u32;
+
+    fn gorvyts_add(
+        image: *const u8,
+        image_size: usize,
+        id: u64,
+        capacity: u64,
+        next: *mut u8,
+        next_size: usize,
+        list: *mut u64,
+        list_size: usize,
+        answer: *mut u64,
+        answer_size: usize,
+    ) -> u32;
+
+    fn gorvyts_remove(
+        image: *const u8,
+        image_size: usize,
+        id: u64,
+        next: *mut u8,
+        next_size: usize,
+        list: *mut u64,
+        list_size: usize,
+        answer: *mut u64,
+        answer_size: usize,
+    ) -> u32;
+
+    fn gorvyts_resize(
+        image: *const u8,
+        image_size: usize,
+        id: u64,
+        capacity: u64,
+        next: *mut u8,
+        next_size: usize,
+        list: *mut u64,
+        list_size: usize,
+        answer: *mut u64,
+        answer_size: usize,
+    ) -> u32;
+
+    fn gorvyts_owner(
+        image: *const u8,
+        image_size: usize,
+        point: u64,
+        answer: *mut u64,
+        answer_size: usize,
+    ) -> u32;
+
+    fn gorvyts_copies(
+        image: *const u8,
+        image_size: usize,
+        block: u64,
+        k: u64,
+        tally: *mut u32,
+        tally_size: usize,
+        row: *mut u32,
+        row_size: usize,
+    ) -> u32;
+
+    fn gorvyts_copies_of_many(
+        image: *const u8,
+        image_size: usize,
+        blocks: *const u64,
+        blocks_size: usize,
+        k: u64,
+        tally: *mut u32,
+        tally_size: usize,
+        rows: *mut u32,
+        rows_size: usize,
+    ) -> u32;
+}
+
+/// Whether the bytes are the image of a pool: 0, 14, 15 or 16.
+pub fn check(image: &[u8]) -> u32 {
+    // SAFETY: pointer and count are those of one slice, which is only read.
+    unsafe { gorvyts_check(image.as_ptr(), image.len()) }
+}
+
+/// Writes the image of a fresh pool; `answer[0]` is its length. Refusals: 2, 17.
+pub fn fresh(range: u64, limit: u64, image: &mut [u8], answer: &mut [u64]) -> u32 {
+    // SAFETY: each pointer and count are those of one slice, and both slices are exclusive.
+    unsafe { gorvyts_fresh(range, limit, image.as_mut_ptr(), image.len(), answer.as_mut_ptr(), answer.len()) }
+}
+
+/// Writes the image of the pool that a history leaves; `answer[0]` is its length. Refusals: 2, 17.
+pub fn replay(text: &[u8], image: &mut [u8], answer: &mut [u64]) -> u32 {
+    // SAFETY: each pointer and count are those of one slice; the text is only read, the others are exclusive.
+    unsafe {
+        gorvyts_replay(
+            text.as_ptr(),
+            text.len(),
+            image.as_mut_ptr(),
+            image.len(),
+            answer.as_mut_ptr(),
+            answer.len(),
+        )
+    }
+}
+
+/// Writes what `slices` prints of a history; `answer[0]` is its length. Refusals: 17, also for a buffer of
+/// less than [`TRANSCRIPT_ROOM`](crate::calls::TRANSCRIPT_ROOM) bytes.
+pub fn transcript(text: &[u8], out: &mut [u8], answer: &mut [u64]) -> u32 {
+    // SAFETY: each pointer and count are those of one slice; the text is only read, the others are exclusive.
+    unsafe {
+        gorvyts_transcript(
+            text.as_ptr(),
+            text.len(),
+            out.as_mut_ptr(),
+            out.len(),
+            answer.as_mut_ptr(),
+            answer.len(),
+        )
+    }
+}
+
+/// Adds a device: the image of the changed pool goes to `next` and the moves, four numbers each (start,
+/// length, old owner, new owner), to `list`. `answer[0]` is the length of the image, `answer[1]` the moved
+/// points, `answer[2]` the number of moves. Refusals: 14, 15, 16, 2, 4, 6, 8, 9, 17.
+pub fn add(
+    image: &[u8],
+    id: u64,
+    capacity: u64,
+    next: &mut [u8],
+    list: &mut [u64],
+    answer: &mut [u64],
+) -> u32 {
+    // SAFETY: each pointer and count are those of one slice; the image is only read, the others are exclusive.
+    unsafe {
+        gorvyts_add(
+            image.as_ptr(),
+            image.len(),
+            id,
+            capacity,
+            next.as_mut_ptr(),
+            next.len(),
+            list.as_mut_ptr(),
+            list.len(),
+            answer.as_mut_ptr(),
+            answer.len(),
+        )
+    }
+}
+
+/// Removes a device; buffers as of [`add`]. Refusals: 14, 15, 16, 2, 5, 7, 8, 9, 17.
+pub fn remove(image: &[u8], id: u64, next: &mut [u8], list: &mut [u64], answer: &mut [u64]) -> u32 {
+    // SAFETY: each pointer and count are those of one slice; the image is only read, the others are exclusive.
+    unsafe {
+        gorvyts_remove(
+            image.as_ptr(),
+            image.len(),
+            id,
+            next.as_mut_ptr(),
+            next.len(),
+            list.as_mut_ptr(),
+            list.len(),
+            answer.as_mut_ptr(),
+            answer.len(),
+        )
+    }
+}
+
+/// Gives a device another capacity; buffers as of [`add`]. Refusals: 14, 15, 16, 2, 5, 8, 9, 17.
+pub fn resize(
+    image: &[u8],
+    id: u64,
+    capacity: u64,
+    next: &mut [u8],
+    list: &mut [u64],
+    answer: &mut [u64],
+) -> u32 {
+    // SAFETY: each pointer and count are those of one slice; the image is only read, the others are exclusive.
+    unsafe {
+        gorvyts_resize(
+            image.as_ptr(),
+            image.len(),
+            id,
+            capacity,
+            next.as_mut_ptr(),
+            next.len(),
+            list.as_mut_ptr(),
+            list.len(),
+            answer.as_mut_ptr(),
+            answer.len(),
+        )
+    }
+}
+
+/// Writes the owner of a point to `answer[0]`. Refusals: 14, 15, 16, 13, 10, 17.
+pub fn owner(image: &[u8], point: u64, answer: &mut [u64]) -> u32 {
+    // SAFETY: each pointer and count are those of one slice; the image is only read, the answer is exclusive.
+    unsafe { gorvyts_owner(image.as_ptr(), image.len(), point, answer.as_mut_ptr(), answer.len()) }
+}
+
+/// Writes the k devices that hold the copies of a block: `row[0]` is the number that is returned, `row[1]` to
+/// `row[8]` are the owners and then zeros, `row[9]` is the probes made. An accepted lookup is added to the
+/// tally, two numbers. Refusals: 14, 15, 16, 11, 10, 12, 17.
+pub fn copies(image: &[u8], block: u64, k: u64, tally: &mut [u32], row: &mut [u32]) -> u32 {
+    // SAFETY: each pointer and count are those of one slice; the image is only read, the others are exclusive.
+    unsafe {
+        gorvyts_copies(
+            image.as_ptr(),
+            image.len(),
+            block,
+            k,
+            tally.as_mut_ptr(),
+            tally.len(),
+            row.as_mut_ptr(),
+            row.len(),
+        )
+    }
+}
+
+/// Writes ten numbers for each block, as [`copies`] does, one block after another. Returns 0 though rows may
+/// hold refusals. Refusals: 14, 15, 16, 17; then rows and tally stay.
+pub fn copies_of_many(image: &[u8], blocks: &[u64], k: u64, tally: &mut [u32], rows: &mut [u32]) -> u32 {
+    // SAFETY: each pointer and count are those of one slice; image and blocks are only read, the others are
+    // exclusive.
+    unsafe {
+        gorvyts_copies_of_many(
+            image.as_ptr(),
+            image.len(),
+            blocks.as_ptr(),
+            blocks.len(),
+            k,
+            tally.as_mut_ptr(),
+            tally.len(),
+            rows.as_mut_ptr(),
+            rows.len(),
+        )
+    }
+}

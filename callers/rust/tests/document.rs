@@ -1,0 +1,159 @@
+//! The cases that document 01 names, and the published vectors of SHA-1, by the reference; the calls among
+//! them by the safe functions too.
+
+mod reference;
+
+use gorvyts::{Copies, Image, Move, Refusal, Tally};
+use reference::history;
+use reference::lookup::point_of_word;
+use reference::pool::{self, shares, Device, Pool};
+use reference::sha1;
+
+const EXAMPLE: &[u8] = b"range 100 16
+add 1 1.000
+add 2 1
+add 3 1.0
+add 3 3,2
+remove 2
+resize 3 3
+";
+
+const PRINTED: &str = "1 0 0 0
+2 0 0 0
+3 0 50 1
+4 0 33 2
+5 1 0 0
+6 0 33 2
+7 0 25 1
+table
+0 9 1
+9 58 3
+67 16 1
+83 17 3
+";
+
+fn built(range: u64, limit: u64, devices: &[(u64, u64)]) -> Pool {
+    devices.iter().fold(Pool::fresh(range, limit).unwrap(), |pool, &(id, capacity)| {
+        pool.add(id, capacity, 4096).unwrap().pool
+    })
+}
+
+fn table(pool: &Pool) -> Vec<(u64, u64, u64)> {
+    pool.table.iter().map(|i| (i.start, i.start + i.length - 1, i.owner)).collect()
+}
+
+#[test]
+fn k1_to_k4_capacities() {
+    assert_eq!(history::capacity(b"3.2"), Ok(3_200));
+    assert_eq!(history::capacity(b"3,2"), Err(1));
+    assert_eq!(history::capacity(b"3.2e"), Err(1));
+    assert_eq!(history::capacity(b"0.000"), Err(2));
+    assert_eq!(history::capacity(b"1000.000"), Ok(1_000_000));
+    assert_eq!(history::capacity(b"1000.001"), Err(2));
+}
+
+#[test]
+fn k5_shares_of_three_equal() {
+    let devices = [1, 2, 3].map(|id| Device { id, capacity: 1_000 });
+    assert_eq!(shares(100, &devices), [34, 33, 33]);
+}
+
+#[test]
+fn k6_to_k8_tables_of_the_example() {
+    let three = built(100, 16, &[(1, 1_000), (2, 1_000), (3, 1_000)]);
+    assert_eq!(table(&three), [(0, 33, 1), (34, 66, 3), (67, 99, 2)]);
+    let two = three.remove(2, 4096).unwrap().pool;
+    assert_eq!(table(&two), [(0, 33, 1), (34, 66, 3), (67, 82, 1), (83, 99, 3)]);
+    let resized = two.resize(3, 3_000, 4096).unwrap().pool;
+    assert_eq!(table(&resized), [(0, 8, 1), (9, 66, 3), (67, 82, 1), (83, 99, 3)]);
+}
+
+#[test]
+fn k9_and_k10_small_limits() {
+    assert_eq!(built(100, 1, &[(1, 1)]).add(2, 1, 4096).unwrap_err(), 8);
+    assert!(built(100, 2, &[(1, 1)]).add(2, 1, 4096).is_ok());
+    let higher = built(1, 1, &[(5, 1)]).add(6, 1, 4096).unwrap();
+    assert_eq!((higher.moves.len(), higher.moved), (0, 0));
+    let lower = built(1, 1, &[(5, 1)]).add(4, 1, 4096).unwrap();
+    assert_eq!(lower.moves, [pool::Move { start: 0, length: 1, from: 5, to: 4 }]);
+}
+
+#[test]
+fn k11_old_devices_swap_a_point() {
+    let before = built(10, 16, &[(1, 143), (2, 857)]);
+    assert_eq!(shares(10, &before.devices), [1, 9]);
+    let after = before.add(3, 30, 4096).unwrap();
+    assert_eq!(shares(10, &after.pool.devices), [2, 8, 0]);
+    assert_eq!(after.moves, [pool::Move { start: 9, length: 1, from: 2, to: 1 }]);
+}
+
+#[test]
+fn k12_points_of_words() {
+    assert_eq!(point_of_word(2_147_483_648, 100), 50);
+    assert_eq!(point_of_word(4_294_967_295, 100), 99);
+}
+
+#[test]
+fn published_digests() {
+    let hex = |message: &[u8]| sha1::digest(message).unwrap().map(|word| format!("{word:08x}")).concat();
+    assert_eq!(hex(b""), "da39a3ee5e6b4b0d3255bfef95601890afd80709");
+    assert_eq!(hex(b"abc"), "a9993e364706816aba3e25717850c26c9cd0d89d");
+    let two_blocks = b"abcdbcdecdefdefgefghfghighijhijkijkljklmklmnlmnomnopnopq";
+    assert_eq!(hex(two_blocks), "84983e441c3bd26ebaae4aa1f95129e5e54670f1");
+}
+
+#[test]
+fn the_example_history() {
+    assert_eq!(history::transcript(EXAMPLE), PRINTED);
+    assert_eq!(history::transcript(b""), "table\n");
+    assert_eq!(gorvyts::transcript(EXAMPLE), PRINTED.as_bytes());
+    assert_eq!(gorvyts::transcript(b""), b"table\n");
+    assert_eq!(gorvyts::transcript(&[b'\n'; 65_537]), b"too long\n");
+}
+
+#[test]
+fn safe_functions() -> Result<(), Refusal> {
+    let pool = Image::replay(EXAMPLE)?;
+    assert_eq!(Image::check(pool.as_bytes()), Ok(pool.clone()));
+    assert_eq!(pool.clone().into_bytes(), pool.as_ref());
+    assert_eq!([8, 9, 66, 67, 99].map(|point| pool.owner(point)), [1, 3, 3, 1, 3].map(Ok));
+    assert_eq!(pool.owner(100), Err(Refusal::PointPastRange));
+
+    let three = Image::fresh(100, 16)?.add(1, 1_000)?.image.add(2, 1_000)?.image.add(3, 1_000)?.image;
+    let two = three.remove(2)?;
+    assert_eq!(two.moved, 33);
+    let expected =
+        [Move { start: 67, length: 16, from: 2, to: 1 }, Move { start: 83, length: 17, from: 2, to: 3 }];
+    assert_eq!(two.moves, expected);
+    assert_eq!(two.image.resize(3, 3_000)?.image, pool);
+    assert_eq!(pool.remove(1)?.image.remove(3), Err(Refusal::OnlyDevice));
+
+    let mut tally = Tally { lookups: 0, probes: u32::MAX };
+    let copies: Copies = pool.copies(5, 2, &mut tally)?;
+    assert_eq!(copies.owners.len(), 2);
+    assert_eq!(tally, Tally { lookups: 1, probes: u32::MAX });
+    let many = pool.copies_of_many(&[5, 6, 5], 2, &mut tally);
+    assert_eq!((many.len(), &many[0], &many[2]), (3, &Ok(copies.clone()), &Ok(copies)));
+    assert_eq!(tally.lookups, 4);
+    assert_eq!(pool.copies(5, 3, &mut tally), Err(Refusal::TooFewOwners));
+    assert_eq!(pool.copies_of_many(&[5], 9, &mut tally), [Err(Refusal::CopiesCount)]);
+    assert_eq!(tally.lookups, 4);
+    Ok(())
+}
+
+#[test]
+fn refusals() {
+    for number in 0..30 {
+        match Refusal::of(number) {
+            Some(refusal) => assert_eq!(refusal.number(), number),
+            None => assert!(number == 0 || number > 17),
+        }
+    }
+    let sentences: std::collections::BTreeSet<String> = Refusal::ALL.iter().map(Refusal::to_string).collect();
+    assert_eq!(sentences.len(), 17);
+    assert_eq!(Image::check(*b"RSL"), Err(Refusal::NoImage));
+    assert_eq!(Image::fresh(0, 1), Err(Refusal::OutsideLimits));
+    assert_eq!(Image::replay(&[b'\n'; 65_537]), Err(Refusal::OutsideLimits));
+    let error: Box<dyn std::error::Error> = Image::fresh(1, 4_097).unwrap_err().into();
+    assert_eq!(error.to_string(), "a number is outside its limits, or there are more than 65,536 bytes");
+}

@@ -1,0 +1,215 @@
+//! The reference and the library against test vectors: a folder with `calls.in`, `calls.out` and
+//! `histories/NAME.in`, `NAME.out`, which the environment variable GORVYTS_VECTORS names. Without it
+//! nothing is compared.
+
+mod reference;
+
+use std::env;
+use std::fs;
+use std::path::PathBuf;
+
+use gorvyts::calls::{self, IMAGE_MOST};
+use reference::lookup::{self, Tally};
+use reference::pool::{Changed, Pool};
+use reference::{history, image, sha1};
+
+fn folder(test: &str) -> Option<PathBuf> {
+    let folder = env::var_os("GORVYTS_VECTORS").map(PathBuf::from);
+    if folder.is_none() {
+        println!("vectors, {test}: skipped, GORVYTS_VECTORS is not set");
+    }
+    folder
+}
+
+#[test]
+fn call_lines() {
+    let Some(folder) = folder("calls") else { return };
+    let questions = fs::read_to_string(folder.join("calls.in")).unwrap();
+    let answers = fs::read_to_string(folder.join("calls.out")).unwrap();
+    assert_eq!(questions.lines().count(), answers.lines().count());
+    let mut by_library = 0;
+    for (question, answer) in questions.lines().zip(answers.lines()) {
+        let words: Vec<&str> = question.split(' ').collect();
+        assert_eq!(by_reference(&words), answer, "the reference on: {question}");
+        if let Some(given) = by_the_library(&words) {
+            assert_eq!(given, answer, "the library on: {question}");
+            by_library += 1;
+        }
+    }
+    println!(
+        "vectors, calls: {} lines by the reference, {by_library} by the library",
+        answers.lines().count()
+    );
+}
+
+#[test]
+fn histories() {
+    let Some(folder) = folder("histories") else { return };
+    let mut count = 0;
+    for entry in fs::read_dir(folder.join("histories")).unwrap() {
+        let question = entry.unwrap().path();
+        if question.extension().is_some_and(|extension| extension == "in") {
+            let text = fs::read(&question).unwrap();
+            let expected = fs::read(question.with_extension("out")).unwrap();
+            let name = question.display();
+            assert!(history::transcript(&text).as_bytes() == expected, "the reference on {name}");
+            assert!(gorvyts::transcript(&text) == expected, "the library on {name}");
+            count += 1;
+        }
+    }
+    assert!(count > 0);
+    println!("vectors, histories: {count}");
+}
+
+fn by_reference(words: &[&str]) -> String {
+    match words[..] {
+        ["sha1", bytes] => match sha1::digest(&unhex(bytes)) {
+            Ok(digest) => format!("0 {}", digest.map(|word| format!("{word:08x}")).concat()),
+            Err(number) => format!("{number} {}", "0".repeat(40)),
+        },
+        ["capacity", text] => one(history::capacity(&unhex(text))),
+        ["point", block, try_number, range] => {
+            one(Ok(lookup::point(number(block), number(try_number) as u32, number(range))))
+        }
+        ["owner", pool, point] => one(lookup::owner(&read(pool), number(point))),
+        ["copies", pool, block, k, lookups, tries] => {
+            let mut tally = Tally { lookups: number(lookups) as u32, tries: number(tries) as u32 };
+            let copies = lookup::copies(&read(pool), number(block), number(k), &mut tally);
+            let owners = copies.owners.map(|owner| owner.to_string()).join(" ");
+            format!("{} {owners} {} {} {}", copies.number, copies.tries, tally.lookups, tally.tries)
+        }
+        ["add", pool, id, capacity, places] => {
+            let pool = read(pool);
+            changed(&pool, pool.add(number(id), number(capacity), number(places) as usize))
+        }
+        ["remove", pool, id, places] => {
+            let pool = read(pool);
+            changed(&pool, pool.remove(number(id), number(places) as usize))
+        }
+        ["resize", pool, id, capacity, places] => {
+            let pool = read(pool);
+            changed(&pool, pool.resize(number(id), number(capacity), number(places) as usize))
+        }
+        ["read", bytes] => {
+            let (number, pool) = match image::read(&unhex(bytes)) {
+                Ok(pool) => (0, pool),
+                Err(number) => (number, Pool::least()),
+            };
+            format!("{number} {}", hex(&image::write(&pool)))
+        }
+        ["write", pool, size] => {
+            let written = image::write(&read(pool));
+            let mut buffer = vec![0xaa; number(size) as usize];
+            let fits = written.len() <= buffer.len();
+            if fits {
+                buffer[..written.len()].copy_from_slice(&written);
+            }
+            let (number, length) = if fits { (0, written.len()) } else { (17, 0) };
+            format!("{number} {length} {}", hex(&buffer))
+        }
+        _ => panic!("a line of no known shape"),
+    }
+}
+
+/// Those lines that the library has a call for.
+fn by_the_library(words: &[&str]) -> Option<String> {
+    Some(match words[..] {
+        ["owner", pool, point] => {
+            let mut answer = [0];
+            let refusal = calls::owner(&unhex(pool), number(point), &mut answer);
+            format!("{refusal} {}", answer[0])
+        }
+        ["copies", pool, block, k, lookups, tries] => {
+            let mut tally = [number(lookups) as u32, number(tries) as u32];
+            let mut row = [0; 10];
+            let refusal = calls::copies(&unhex(pool), number(block), number(k), &mut tally, &mut row);
+            assert_eq!(row[0], refusal);
+            let row = row.map(|number| number.to_string()).join(" ");
+            format!("{row} {} {}", tally[0], tally[1])
+        }
+        ["add", pool, id, capacity, places] => {
+            let pool = unhex(pool);
+            changed_by_the_library(&pool, places, |next, list, answer| {
+                calls::add(&pool, number(id), number(capacity), next, list, answer)
+            })
+        }
+        ["remove", pool, id, places] => {
+            let pool = unhex(pool);
+            changed_by_the_library(&pool, places, |next, list, answer| {
+                calls::remove(&pool, number(id), next, list, answer)
+            })
+        }
+        ["resize", pool, id, capacity, places] => {
+            let pool = unhex(pool);
+            changed_by_the_library(&pool, places, |next, list, answer| {
+                calls::resize(&pool, number(id), number(capacity), next, list, answer)
+            })
+        }
+        ["read", bytes] => {
+            let bytes = unhex(bytes);
+            match calls::check(&bytes) {
+                0 => format!("0 {}", hex(&bytes)),
+                refusal => format!("{refusal} {}", hex(&image::write(&Pool::least()))),
+            }
+        }
+        _ => return None,
+    })
+}
+
+fn changed_by_the_library(
+    before: &[u8],
+    places: &str,
+    call: impl FnOnce(&mut [u8], &mut [u64], &mut [u64]) -> u32,
+) -> String {
+    let mut next = vec![0; IMAGE_MOST];
+    let mut list = vec![0; 4 * number(places) as usize];
+    let mut answer = [0; 3];
+    let refusal = call(&mut next, &mut list, &mut answer);
+    let [length, moved, moves] = answer;
+    let after = if refusal == 0 { &next[..length as usize] } else { before };
+    let list: String = list[..4 * moves as usize].iter().map(|number| format!(" {number}")).collect();
+    format!("{refusal} {moved} {moves} {}{list}", hex(after))
+}
+
+fn one(result: Result<u64, u32>) -> String {
+    match result {
+        Ok(value) => format!("0 {value}"),
+        Err(number) => format!("{number} 0"),
+    }
+}
+
+fn changed(before: &Pool, result: Result<Changed, u32>) -> String {
+    match result {
+        Ok(Changed { pool, moves, moved }) => {
+            let list: String =
+                moves.iter().map(|m| format!(" {} {} {} {}", m.start, m.length, m.from, m.to)).collect();
+            format!("0 {moved} {} {}{list}", moves.len(), hex(&image::write(&pool)))
+        }
+        Err(number) => format!("{number} 0 0 {}", hex(&image::write(before))),
+    }
+}
+
+fn read(pool: &str) -> Pool {
+    image::read(&unhex(pool)).unwrap()
+}
+
+fn number(word: &str) -> u64 {
+    word.parse().unwrap()
+}
+
+fn hex(bytes: &[u8]) -> String {
+    if bytes.is_empty() {
+        return "-".to_string();
+    }
+    bytes.iter().map(|byte| format!("{byte:02x}")).collect()
+}
+
+fn unhex(text: &str) -> Vec<u8> {
+    if text == "-" {
+        return Vec::new();
+    }
+    text.as_bytes()
+        .chunks(2)
+        .map(|two| u8::from_str_radix(std::str::from_utf8(two).unwrap(), 16).unwrap())
+        .collect()
+}
