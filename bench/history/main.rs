@@ -1,12 +1,11 @@
 // Measures `history::transcript` of crates/history, by way of `bench_history_run`, against the same
-// steps in Rust. See `run` for how this is built and called.
+// steps in Rust. See `run` for how this is built and called. H is a history: `changes`, `refused` or `none`,
+// which is empty.
 //
-//   check            both print the same bytes; the lines by their refusals, the intervals at the end
-//   ours, rust       one of the two alone, for an instruction counter
-//   ours none, rust none
-//                    the same on an empty text
-//   time             each five times, in turn, and the best of the five
-//   text             the history
+//   check H          both print the same bytes; the lines by their refusals, the intervals at the end
+//   ours H, rust H   one of the two alone, for an instruction counter
+//   time H           each five times, in turn, and the best of the five
+//   text H           the history
 #[path = "../changes/slicing.rs"]
 mod slicing;
 
@@ -187,7 +186,7 @@ mod text {
     // kinds; then in turn removes down to one device, adds up to 200 and lines of all kinds; then new
     // capacities of large devices, which soon make too many intervals; then short lines without a shape.
     // 65,536 bytes.
-    pub fn history() -> Vec<u8> {
+    pub fn changes() -> Vec<u8> {
         let mut w = Writer { numbers: Numbers(9), ids: Vec::new(), text: String::new(), refused: 0 };
         w.line("add 1 1");
         w.line("range 0 4096");
@@ -215,6 +214,13 @@ mod text {
             w.line("");
         }
         w.text.into_bytes()
+    }
+
+    // A range, one device, and empty lines, each refused with 1. 65,536 bytes.
+    pub fn refused() -> Vec<u8> {
+        let mut text = b"range 4294967296 4096\nadd 1 1\n".to_vec();
+        text.resize(LONGEST, b'\n');
+        text
     }
 }
 
@@ -505,18 +511,18 @@ fn seconds(f: fn(&[u8], &mut [u8]) -> usize, text: &[u8], out: &mut [u8]) -> f64
 fn main() {
     let args: Vec<String> = std::env::args().collect();
     let usage = || -> ! {
-        eprintln!("usage: {} check|ours|rust|time|text [none]", args[0]);
+        eprintln!("usage: {} check|ours|rust|time|text changes|refused|none", args[0]);
         exit(2)
     };
-    if args.len() < 2 {
+    if args.len() != 3 {
         usage();
     }
-    let mut text = text::history();
-    match args.get(2).map(String::as_str) {
-        None => {}
-        Some("none") => text.clear(),
-        Some(_) => usage(),
-    }
+    let text = match args[2].as_str() {
+        "changes" => text::changes(),
+        "refused" => text::refused(),
+        "none" => Vec::new(),
+        _ => usage(),
+    };
     let mut out = vec![0; ROOM];
     match args[1].as_str() {
         "check" => check(&text),
@@ -528,7 +534,7 @@ fn main() {
                 ours = ours.min(seconds(ours_run, &text, &mut out));
                 rust = rust.min(seconds(rust_run, &text, &mut out));
             }
-            println!("best of five: ours {ours:.3} s, Rust {rust:.3} s, ours/Rust {:.3}", ours / rust);
+            println!("{}, best of five: ours {ours:.3} s, Rust {rust:.3} s, ours/Rust {:.3}", args[2], ours / rust);
         }
         "text" => std::io::stdout().write_all(&text).unwrap(),
         _ => usage(),

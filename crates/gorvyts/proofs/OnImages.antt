@@ -1,7 +1,7 @@
 -- What a call on an image answers, from what the read of the image answered.
 --
--- on-image-refused (a refused read gives its number), on-image-valid, on-image-state (an accepted read gives a valid pool, that of the
--- image's state), on-image-accepted; on-image-number (the number of the read)
+-- on-image-refused (a refused read gives its number), on-image-valid (an accepted read gives a valid pool), on-image-accepted (and that
+-- of the image's state); on-image-number (the number of the read)
 use mathlib.Core.Path.{_≡_, ap, _∙_}
 use mathlib.Core.List.{List}
 use Prim.Native.Nat.{ℕ, _≤_, _<_}
@@ -9,7 +9,6 @@ use native.Mathlib.Omega.{arith}
 use Rattle.slicing.specs.Changes.{State}
 use Rattle.placement.specs.Pools.{stateOf, ValidPool}
 use Rattle.placement.specs.declared.PoolAnswer.{PoolAnswer}
-use Rattle.images.specs.Format.{stateIn}
 use Rattle.images.specs.Promises.{ReadAs, unmarked, versioned, faulty, accepted}
 use Rattle.images.proofs.RoundTrips.{read-accepted, accepted-state, accepted-valid}
 use Rattle.gorvyts.specs.Promises as Promises
@@ -30,9 +29,6 @@ module _ {A : Type 0} (xs : List ℕ) (f : ℕ → A) (g : State → A) (r : A) 
 module _ (xs : List ℕ) (made : PoolAnswer) (a : ReadAs xs made) (z : made .refusal ≤ 0) where
   pub on-image-valid : ValidPool (made .pool)
   on-image-valid = accepted-valid xs made a (omega (arith, z))
-
-  pub on-image-state : stateOf (made .pool) ≡ stateIn xs
-  on-image-state = accepted-state xs made a (omega (arith, z))
 
 pub on-image-number : (xs : List ℕ) (made : PoolAnswer) → ReadAs xs made → Checked xs (made .refusal)
 on-image-number xs made (unmarked h e) = Promises.unmarked h (ap (λ a. a .refusal) e)

@@ -12,7 +12,7 @@ use Rattle.slicing.specs.LargestRemainder.{largestRemainder}
 use Rattle.slicing.specs.Runs.{_of_}
 use Rattle.slicing.specs.ShareRule.{shares}
 use Rattle.slicing.specs.SixSteps.{turns, move}
-use Rattle.slicing.proofs.Examples.{after, next, threeEqual}
+use Rattle.slicing.proofs.Cases.{after, next, threeEqual}
 
 -- `3.2` is 3,200
 pub K1 : capacityAnswer (capacityIn (0x33 ∷ 0x2e ∷ 0x32 ∷ [])) ≡ Thousandths 3200

@@ -13,5 +13,5 @@ pub mod MovesAt
 pub mod Least
 pub mod Changes
 pub mod Demand3
-pub mod Examples
+pub mod Cases
 pub mod Vectors
