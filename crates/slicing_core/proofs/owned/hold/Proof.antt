@@ -38,7 +38,7 @@ element-copy-out-if1-2 : tie.Need-element-copy-out-if1-2 Inv-loop μ-loop
 element-copy-out-if1-2 c = omega arith
 
 returns : tie.Need-returns Inv-loop μ-loop
-returns c = λ h. c .if1 .taken (h (c .before .before .before .before .before .loop .i) (c .before .before .before .before .loop-test .taken))
+returns c = λ h. c .if1 .taken (omega (arith, h (c .before .before .before .before .before .loop .i) (c .before .before .before .before .loop-test .taken)))
 
 add-i : tie.Need-add-i Inv-loop μ-loop
 add-i c = omega arith
