@@ -27,8 +27,9 @@ use libc::STDOUT_FILENO;
 use lookups::Counters;
 use number_text::Input;
 use number_text::PIECE;
+use number_text::least;
 use number_text::within;
-use placement::ChangeAnswer;
+use placement::Call;
 use placement::Pool;
 ghost use Prim.Native.Nat.{_≤_};
 ghost use lib.ListN.{length};
@@ -39,35 +40,15 @@ mod words;
 // The most bytes of a line without its end.
 const LONGEST: usize = 65536;
 
-// The most places that are lent, and their numbers.
+// The most places that are lent.
 pub const PLACES: usize = 8448;
 
-pub const NUMBERS: usize = 33792;
-
-// A change of a pool.
-enum Change {
-    Add(u64, u64),
-    Remove(u64),
-    Resize(u64, u64),
-}
-
-fn changed(pool: Pool, change: Change, list: &mut [u64]) -> ChangeAnswer {
-    match change {
-        Change::Add(id, capacity) => placement::add(pool, id, capacity, &mut *list),
-        Change::Remove(id) => placement::remove(pool, id, &mut *list),
-        Change::Resize(id, capacity) => placement::resize(pool, id, capacity, &mut *list),
-    }
-}
-
 // In what follows, false is answered for a line that is none, and then nothing is printed.
-fn change_line(pool: Pool, change: Change, places: &[u8]) -> bool {
+fn change_line(pool: Pool, call: Call, places: &[u8]) -> bool {
     let Parsed::Number(most) = number(places) else {
         return false;
     };
-    let mut list = [0u64; NUMBERS];
-    let n = number_text::within_numbers(4 * number_text::least(most, PLACES), &list);
-    let answer = changed(pool, change, &mut list[..n]);
-    printing::change(answer, &list);
+    printing::change(lent_lists::changed(pool, call, least(most, PLACES)));
     true
 }
 
@@ -78,14 +59,14 @@ fn add_line(pool: Pool, line: &[u8]) -> bool {
     let Parsed::Number(capacity) = number(word(line, 3)) else {
         return false;
     };
-    change_line(pool, Change::Add(id, capacity), word(line, 4))
+    change_line(pool, Call::Add(id, capacity), word(line, 4))
 }
 
 fn remove_line(pool: Pool, line: &[u8]) -> bool {
     let Parsed::Number(id) = number(word(line, 2)) else {
         return false;
     };
-    change_line(pool, Change::Remove(id), word(line, 3))
+    change_line(pool, Call::Remove(id), word(line, 3))
 }
 
 fn resize_line(pool: Pool, line: &[u8]) -> bool {
@@ -95,7 +76,7 @@ fn resize_line(pool: Pool, line: &[u8]) -> bool {
     let Parsed::Number(capacity) = number(word(line, 3)) else {
         return false;
     };
-    change_line(pool, Change::Resize(id, capacity), word(line, 4))
+    change_line(pool, Call::Resize(id, capacity), word(line, 4))
 }
 
 fn owner_line(pool: Pool, line: &[u8]) -> bool {

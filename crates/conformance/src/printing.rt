@@ -1,23 +1,22 @@
 // The printed answers.
-use crate::NUMBERS;
 use crate::PLACES;
 use crate::words::MOST;
 use history::CapacityAnswer;
 use images::WriteAnswer;
+use lent_lists::Lent;
 use libc::STDOUT_FILENO;
 use lookups::CopiesAnswer;
 use lookups::OwnerAnswer;
 use lookups::PointAnswer;
+use move_lists::Move;
 use number_text::end_line;
 use number_text::first;
 use number_text::least;
 use number_text::pair;
 use number_text::space;
 use number_text::spaced;
-use number_text::spaced_list;
 use number_text::wide32;
 use number_text::within;
-use placement::ChangeAnswer;
 use placement::Pool;
 use placement::PoolAnswer;
 use sha1::DigestAnswer;
@@ -137,14 +136,35 @@ pub fn copies(answer: CopiesAnswer) {
     end_line();
 }
 
-pub fn change(answer: ChangeAnswer, list: &[u64; NUMBERS]) {
+// Start, length, old and new owner of a move.
+fn one_move(step: Move) {
+    spaced(step.start);
+    spaced(step.length);
+    spaced(step.from);
+    spaced(step.to);
+}
+
+// The first n moves of a list.
+fn moves(list: [Move; PLACES], n: usize)
+    requires { ⌜ n ≤ 8448 ⌝ }
+{
+    let mut i = 0;
+    while i < n {
+        one_move(list[i]);
+        i += 1;
+    }
+}
+
+pub fn change(lent: Lent) {
+    let list = lent.list;
+    let answer = lent.answer;
     let after = answer.pool;
     first(wide32(answer.refusal));
     spaced(answer.moved);
     spaced(answer.count as u64);
     space();
     pool(after);
-    spaced_list(list, 4 * least(answer.count as u64, PLACES));
+    moves(list, least(answer.count as u64, PLACES));
     end_line();
 }
 

@@ -1,0 +1,3 @@
+pub mod FrontLent
+pub mod Afterwards
+pub mod Lending
