@@ -35,7 +35,7 @@ loop-less c = omega arith
 loop-again : tie.Need-loop-again Inv-loop μ-loop
 loop-again c =
     let inside = c .before .before .before in
-    halved-up _ _ _ _ _ (inside .before .loop .inv) (inside .loop-test .taken) (omega arith)
+    halved-up _ _ _ _ _ (inside .before .loop .inv) (omega (arith, inside .loop-test .taken)) (omega arith)
 
 loop-less-2 : tie.Need-loop-less-2 Inv-loop μ-loop
 loop-less-2 c = omega arith
@@ -43,7 +43,7 @@ loop-less-2 c = omega arith
 loop-again-2 : tie.Need-loop-again-2 Inv-loop μ-loop
 loop-again-2 c =
     let inside = c .before .before .before in
-    halved-down _ _ _ _ _ (inside .before .loop .inv) (inside .loop-test .taken) (omega arith)
+    halved-down _ _ _ _ _ (inside .before .loop .inv) (omega (arith, inside .loop-test .taken)) (omega arith)
 
 returns : tie.Need-returns Inv-loop μ-loop
 returns c = halved-one _ _ _ _ _ (c .before .loop .inv) (c .loop-test .left)

@@ -62,7 +62,7 @@ returns : tie.Need-returns Inv-loop μ-loop
 returns c =
     let owner = c .before .before .before .before in
     let inside = owner .before .before in
-    walking-last _ _ _ _ _ _ _ _ _ (inside .before .loop .inv) _ (owner-is owner) (inside .loop-test .taken) (unseen (c .before)) (c .if2 .taken)
+    walking-last _ _ _ _ _ _ _ _ _ (inside .before .loop .inv) _ (owner-is owner) (omega (arith, inside .loop-test .taken)) (unseen (c .before)) (c .if2 .taken)
 
 loop-less : tie.Need-loop-less Inv-loop μ-loop
 loop-less c = omega arith
@@ -71,7 +71,7 @@ loop-again : tie.Need-loop-again Inv-loop μ-loop
 loop-again c =
     let owner = c .before .before .before .before in
     let inside = owner .before .before in
-    walking-more _ _ _ _ _ _ _ _ _ (inside .before .loop .inv) _ (owner-is owner) (inside .loop-test .taken) (unseen (c .before)) (c .if2 .left)
+    walking-more _ _ _ _ _ _ _ _ _ (inside .before .loop .inv) _ (owner-is owner) (omega (arith, inside .loop-test .taken)) (unseen (c .before)) (c .if2 .left)
 
 loop-less-2 : tie.Need-loop-less-2 Inv-loop μ-loop
 loop-less-2 c = omega arith
@@ -81,7 +81,7 @@ loop-again-2 c =
     let owner = c .before .before .before in
     let inside = owner .before .before in
     let seen = sym (c .before .chosen .ensures) ∙ not-false _ (c .if1 .left) in
-    walking-again _ _ _ _ _ _ _ _ _ (inside .before .loop .inv) _ (owner-is owner) (inside .loop-test .taken) seen
+    walking-again _ _ _ _ _ _ _ _ _ (inside .before .loop .inv) _ (owner-is owner) (omega (arith, inside .loop-test .taken)) seen
 
 returns-2 : tie.Need-returns-2 Inv-loop μ-loop
 returns-2 c = walking-end _ _ _ _ _ _ _ _ _ (c .before .loop .inv) (c .loop-test .left)

@@ -29,7 +29,7 @@ returns-2 c =
     let t = c .before in
     record {
       found = refuses-eleven _ (a .devices) (a .k) (a .counters) (c .refused2 .result)
-          (rw (le-ltb (a .k) 1 (t .before .if1 .left), lt-ltb 8 (a .k) (t .if2 .taken))) (c .refused2 .ensures);
+          (rw (le-ltb (a .k) 1 (t .before .if1 .left), lt-ltb 8 (a .k) (omega (arith, t .if2 .taken)))) (c .refused2 .ensures);
     }
 
 refused-requires-3 : tie.Need-refused-requires-3

@@ -1,5 +1,6 @@
 -- `lookups::owner_in` meets its contract: 13 before 10, then the owner that halving finds.
 use mathlib.Core.Path.{ap}
+use native.Mathlib.Omega.{arith}
 use borrow.Author.Needs.{needs}
 use borrow.Author.Tests.{le-leb, lt-leb, eq-eqb, ne-eqb}
 use Rattle.lookups.specs.declared.OwnerAnswer.the-variants.{Owner}
@@ -9,7 +10,7 @@ use Rattle.lookups.proofs.owner_in.Tie as tie
 returns : tie.Need-returns
 returns c =
     let a = c .before .args in
-    rw (le-leb (a .range) (a .point) (c .if1 .taken))
+    rw (le-leb (a .range) (a .point) (omega (arith, c .if1 .taken)))
 
 returns-2 : tie.Need-returns-2
 returns-2 c =

@@ -1,5 +1,6 @@
 -- `lookups::point` meets its contract: the tests are those of `strange`, in their order.
 use mathlib.Core.Path.{ap}
+use native.Mathlib.Omega.{arith}
 use borrow.Author.Needs.{needs}
 use borrow.Author.Tests.{lt-ltb, le-ltb}
 use Rattle.slicing.specs.Limits.{maxRange}
@@ -10,7 +11,7 @@ use Rattle.lookups.proofs.point.Tie as tie
 returns : tie.Need-returns
 returns c =
     let a = c .before .args in
-    rw (lt-ltb 255 (a .probe) (c .if1 .taken))
+    rw (lt-ltb 255 (a .probe) (omega (arith, c .if1 .taken)))
 
 returns-2 : tie.Need-returns-2
 returns-2 c =
