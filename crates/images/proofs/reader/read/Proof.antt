@@ -101,7 +101,7 @@ returns-5 c =
     let v = k .before .before in
     faulty (mark-holds (v .before .before)) (version-holds v)
     (another-size (image3 k) (k .before .number22 .result) (k .number23 .result) (k .before .number22 .ensures .0) (k .number23 .ensures .0)
-    (c .before .if5 .taken))
+    (λ e. omega (arith, e, c .before .if5 .taken)))
     (c .refused5 .ensures)
 
 described-requires : tie.Need-described-requires

@@ -42,7 +42,7 @@ add-size-2 c =
 returns-2 : tie.Need-returns-2
 returns-2 c =
     let v = c .before .before .before in
-    written-short _ (valid-pool v) (v .before .before .before .args .buffer .now) (c .if2 .taken)
+    written-short _ (valid-pool v) (v .before .before .before .args .buffer .now) (omega (arith, c .if2 .taken))
 
 put-image-requires : tie.Need-put-image-requires
 put-image-requires c κs =
