@@ -4,11 +4,11 @@
 --   Carries plan lent r after   r answers the plan, and after is the lent list with its moves
 --
 -- lists: length-movesIn
--- Changed: changed-refused, changed-two (a pool that is not valid, or a number outside its limits), changed-first, changed-planned
--- settle: planned-fits
+-- Changed: changed-refused, changed-two (a pool that is not valid, or a number outside its limits), changed-first, changed-settled
+-- Settled: settled-planned, planned-fits (the plan's moves fit the list)
 -- the checks: add-two, add-four, add-six, add-first, add-settle; remove-two, remove-five, remove-seven, remove-settle; resize-two,
 -- resize-five, resize-settle
-use mathlib.Core.Path.{_≡_, refl, sym, ap, _∙_}
+use mathlib.Core.Path.{_≡_, refl, sym, ap, _∙_, subst}
 use mathlib.Core.Bool.{Bool, true, false, _||_}
 use mathlib.Core.List.{List, [], _∷_, _++_}
 use Prim.Native.Nat.{ℕ, _*_, _/_, _≤_, _<_}
@@ -29,7 +29,7 @@ use Rattle.placement.specs.declared.ChangeAnswer.{ChangeAnswer}
 use Rattle.placement.specs.declared.Pool.{Pool}
 use Rattle.placement.specs.declared.settle.Plan.{Plan}
 use Rattle.placement.specs.Pools.{stateOf, poolOf, ValidPool}
-use Rattle.placement.specs.Promises.{movesIn, flat, Changed, Planned}
+use Rattle.placement.specs.Promises.{movesIn, flat, Answered, Changed, Planned, Settled}
 use Rattle.placement.proofs.NextDevices.{Next}
 use Rattle.placement.proofs.OpenedPools.{length-devices}
 
@@ -89,23 +89,30 @@ module _ {p : Pool} {lent : List ℕ} {k : Change} {r : ChangeAnswer} where
     invalid = λ n. absurd (n v);
   }
 
-  changed-planned : {after : List ℕ} {es : List Device} {plan : Plan} → ValidPool p → Planned p es (length lent / 4) plan → Carries plan lent r after
+  changed-settled : {after : List ℕ} {es : List Device} → ValidPool p → Settled p es lent r after
       → change (stateOf p) (movesIn lent) k ≡ settle (stateOf p) (movesIn lent) es → Changed p lent k r after
-  changed-planned {after} {es} {plan} v m e o = record {
-    valid = λ h. record {
-      number = e .0 .0 ∙ m .number (movesIn lent) l ∙ sym (ap (λ u. u .number) o);
-      moved = e .0 .1 ∙ m .moved (movesIn lent) l ∙ sym (ap (λ u. u .moved) o);
-      count = e .0 .2 ∙ m .count (movesIn lent) l ∙ sym (ap (λ u. u .count) o);
-      pool = e .0 .3 ∙ m .pool (movesIn lent) l ∙ sym (ap (λ u. poolOf (u .state)) o);
-      list = e .1 ∙ ap (λ ms. flat ms ++ drop (4 * plan .moves .count) lent) (m .moves (movesIn lent) l)
-          ∙ ap (λ n. flat (written (settle (stateOf p) (movesIn lent) es)) ++ drop (4 * n) lent) (m .count (movesIn lent) l)
-          ∙ sym (ap (λ u. flat (written u) ++ drop (4 * u .count) lent) o);
-    };
+  changed-settled {after} v m o = record {
+    valid = λ h. subst (λ u. Answered lent u (poolOf (u .state)) r after) (sym o) (m .answer);
     invalid = λ n. absurd (n v);
   }
-    where
-      l : length (movesIn lent) ≡ length lent / 4
-      l = length-movesIn lent
+
+-- ---- a change to given devices
+
+pub settled-planned : {p : Pool} {lent after : List ℕ} {es : List Device} {r : ChangeAnswer} {plan : Plan} → Planned p es (length lent / 4) plan
+    → Carries plan lent r after → Settled p es lent r after
+settled-planned {p} {lent} {after} {es} {r} {plan} m e = record {
+  answer = record {
+    number = e .0 .0 ∙ m .number (movesIn lent) l;
+    moved = e .0 .1 ∙ m .moved (movesIn lent) l;
+    count = e .0 .2 ∙ m .count (movesIn lent) l;
+    pool = e .0 .3 ∙ m .pool (movesIn lent) l;
+    list = e .1 ∙ ap (λ ms. flat ms ++ drop (4 * plan .moves .count) lent) (m .moves (movesIn lent) l)
+        ∙ ap (λ n. flat (written (settle (stateOf p) (movesIn lent) es)) ++ drop (4 * n) lent) (m .count (movesIn lent) l);
+  };
+}
+  where
+    l : length (movesIn lent) ≡ length lent / 4
+    l = length-movesIn lent
 
 -- the moves of an outcome fit the list
 count-settled : (s : State) (lent : List Move) (ts : List (Run Turn)) (es : List Device) → settledBy s lent ts es .count ≤ length lent
@@ -167,19 +174,18 @@ module _ {p : Pool} {lent : List ℕ} {d c : ℕ} {r : ChangeAnswer} where
     unfolding change
     resize-five e g = changed-refused (v .0) e (rw (v .1, g))
 
-    module _ {after ids capacities : List ℕ} {m : ℕ} {plan : Plan} (s : Planned p (deviceRows ids capacities 0 m) (length lent / 4) plan)
-        (e : Carries plan lent r after) where
+    module _ {after ids capacities : List ℕ} {m : ℕ} (s : Settled p (deviceRows ids capacities 0 m) lent r after) where
       pub add-settle : present d (stateOf p .devices) ≡ false → p .devices < maxDevices → 1 ≤ p .devices
           → Next (insert d c (stateOf p .devices)) ids capacities m → Changed p lent (add d c) r after
       unfolding change
       add-settle g l some x =
-          changed-planned (v .0) s e
+          changed-settled (v .0) s
           (rw (v .1, g, lt-leb maxDevices (length (stateOf p .devices)) (omega (arith, length-devices p)))
           (admit-some (stateOf p) (movesIn lent) d c (stateOf p .devices) (omega (arith, length-devices p)) ∙ ap (settle (stateOf p) (movesIn lent)) (sym (x .rows))))
 
       pub resize-settle : present d (stateOf p .devices) ≡ true → Next (update d c (stateOf p .devices)) ids capacities m → Changed p lent (resize d c) r after
       unfolding change
-      resize-settle g x = changed-planned (v .0) s e (rw (v .1, g) (ap (settle (stateOf p) (movesIn lent)) (sym (x .rows))))
+      resize-settle g x = changed-settled (v .0) s (rw (v .1, g) (ap (settle (stateOf p) (movesIn lent)) (sym (x .rows))))
 
 module _ {p : Pool} {lent : List ℕ} {d : ℕ} {r : ChangeAnswer} where
   pub remove-two : (ValidPool p × (outside maxId d ≡ false) → ⊥) → Refuses p 2 r → Changed p lent (remove d) r lent
@@ -195,10 +201,9 @@ module _ {p : Pool} {lent : List ℕ} {d : ℕ} {r : ChangeAnswer} where
     unfolding change
     remove-seven e g l = changed-refused (v .0) e (rw (v .1, g, le-leb (length (stateOf p .devices)) 1 (omega (arith, length-devices p))))
 
-    pub remove-settle : {after ids capacities : List ℕ} {m : ℕ} {plan : Plan} → Planned p (deviceRows ids capacities 0 m) (length lent / 4) plan
-        → Carries plan lent r after → present d (stateOf p .devices) ≡ true → 1 < p .devices
+    pub remove-settle : {after ids capacities : List ℕ} {m : ℕ} → Settled p (deviceRows ids capacities 0 m) lent r after → present d (stateOf p .devices) ≡ true → 1 < p .devices
         → Next (delete d (stateOf p .devices)) ids capacities m → Changed p lent (remove d) r after
     unfolding change
-    remove-settle s e g l x =
-        changed-planned (v .0) s e
+    remove-settle s g l x =
+        changed-settled (v .0) s
         (rw (v .1, g, lt-leb (length (stateOf p .devices)) 1 (omega (arith, length-devices p))) (ap (settle (stateOf p) (movesIn lent)) (sym (x .rows))))

@@ -1,10 +1,11 @@
--- Laws of a copy: what the loops that widen or narrow an array need.
+-- Laws of copied columns: what the loops that widen or narrow them need.
 --
---   Copied xs k n into i      of the n numbers of xs, the first i stand in into, each below k
+--   Copied xs k n into i               of the n numbers of xs, the first i stand in into, each below k
+--   Columns ids values n into beside i the same of ids and of the numbers beside them
 --
 -- Copied: copied-none, copied-more, copied-all
--- Widened: widened-length
-use mathlib.Core.Path.{_≡_, refl, sym, _∙_, subst}
+-- Columns: columns-none, columns-more
+use mathlib.Core.Path.{_≡_, refl, sym, _∙_}
 use mathlib.Core.List.{List}
 use Prim.Native.Nat.{ℕ, _+_, _≤_, _<_}
 use native.Mathlib.Omega.{arith}
@@ -17,21 +18,23 @@ use Rattle.slicing_core.specs.Stages.{Below}
 use Rattle.placement.specs.Pools.{Widened}
 
 pub record Copied (xs : List ℕ) (k n : ℕ) (into : List ℕ) (i : ℕ) : Type 0 where
+  pub long : length xs ≡ n
   pub passed : i ≤ n
   pub size : length into ≡ n
   pub same : take i into ≡ take i xs
   pub below : Below k xs i
 
-pub copied-none : (xs : List ℕ) (k n : ℕ) (into : List ℕ) → length into ≡ n → Copied xs k n into 0
-copied-none xs k n into l = record { passed = omega arith; size = l; same = refl; below = below-none _ }
+copied-none : (xs : List ℕ) (k n : ℕ) (into : List ℕ) → length xs ≡ n → length into ≡ n → Copied xs k n into 0
+copied-none xs k n into e l = record { long = e; passed = omega arith; size = l; same = refl; below = below-none _ }
 
-module _ (xs : List ℕ) (k n : ℕ) (into : List ℕ) (i : ℕ) (long : length xs ≡ n) (d : Copied xs k n into i) where
-  pub copied-more : i < n → at xs i < k → Copied xs k n (set into i (at xs i)) (i + 1)
+module _ {xs : List ℕ} {k n : ℕ} {into : List ℕ} {i : ℕ} (d : Copied xs k n into i) where
+  copied-more : i < n → at xs i < k → Copied xs k n (set into i (at xs i)) (i + 1)
   copied-more h b =
       record {
+        long = d .long;
         passed = omega arith;
         size = length-set into i (at xs i) ∙ d .size;
-        same = rw (add-one, take-suc-set into i (at xs i) (omega (arith, d .size)), take-suc xs i 0 (omega (arith, long)), d .same);
+        same = rw (add-one, take-suc-set into i (at xs i) (omega (arith, d .size)), take-suc xs i 0 (omega (arith, d .long)), d .same);
         below = below-more _ i (d .below) b;
       }
 
@@ -39,10 +42,19 @@ module _ (xs : List ℕ) (k n : ℕ) (into : List ℕ) (i : ℕ) (long : length 
   copied-all h =
       let e : i ≡ n = omega (arith, d .passed) in
       record {
-        same = sym (take-all i into (omega (arith, d .size))) ∙ d .same ∙ take-all i xs (omega (arith, long));
-        size = long;
+        same = sym (take-all i into (omega (arith, d .size))) ∙ d .same ∙ take-all i xs (omega (arith, d .long));
+        size = d .long;
         below = rw e at (d .below);
       }
 
-pub widened-length : {xs r : List ℕ} {k n : ℕ} → Widened xs k (length xs) r → length xs ≡ n → Widened xs k n r
-widened-length {xs} {r} {k} w l = subst (λ (m : ℕ). Widened xs k m r) l w
+pub record Columns (xs ys : List ℕ) (n : ℕ) (into beside : List ℕ) (i : ℕ) : Type 0 where
+  pub ids : Copied xs 65536 n into i
+  pub values : Copied ys 4294967296 n beside i
+
+module _ {ids values : List ℕ} {n : ℕ} {into beside : List ℕ} where
+  pub columns-none : length ids ≡ n → length values ≡ n → length into ≡ n → length beside ≡ n → Columns ids values n into beside 0
+  columns-none e f g h = record { ids = copied-none _ _ _ _ e g; values = copied-none _ _ _ _ f h }
+
+  pub columns-more : {i : ℕ} → Columns ids values n into beside i → i < n → at ids i < 65536 → at values i < 4294967296
+      → Columns ids values n (set into i (at ids i)) (set beside i (at values i)) (i + 1)
+  columns-more c l a b = record { ids = copied-more (c .ids) l a; values = copied-more (c .values) l b }

@@ -23,7 +23,8 @@ use Rattle.slicing_core.specs.Stages.{Position, Inserted, Deleted}
 use Rattle.slicing_core.proofs.DeviceRows.{position-present, insert-rows, delete-rows, update-rows}
 use Rattle.placement.specs.declared.Pool.{Pool}
 use Rattle.placement.specs.Pools.{stateOf, ValidPool, Zeros}
-use Rattle.placement.proofs.OpenedPools.{Opened, opened-rows, opened-rising, opened-ascending, opened-ids, opened-capacities, cleared-ids, cleared-capacities}
+use Rattle.placement.specs.Promises.{Opened}
+use Rattle.placement.proofs.OpenedPools.{opened-rows, opened-rising, opened-ascending, opened-ids, opened-capacities, cleared-ids, cleared-capacities}
 
 pub record Next (es : List Device) (d c : List ℕ) (n : ℕ) : Type 0 where
   pub some : 1 ≤ n

@@ -1,14 +1,14 @@
 -- A valid pool with its devices in wide rows, as the calls open it.
 --
---   Opened p d c     p is valid, and d and c hold its ids and capacities
---
 -- rows: opened-rows (they are the state's devices), opened-rising, length-devices
 -- find: opened-ascending (what it asks), opened-present (its answer, as the rules ask it)
+-- the place of an id: row-below
 -- places: opened-ids, opened-capacities (how many), cleared-ids, cleared-capacities (0 after the devices)
 use mathlib.Core.Path.{_≡_, sym, ap, ap₂, _∙_, subst}
-use mathlib.Core.Bool.{Bool}
+use mathlib.Core.Bool.{Bool, true}
 use mathlib.Core.List.{List}
-use Prim.Native.Nat.{ℕ, _≤_}
+use Prim.Native.Nat.{ℕ, _≤_, _<_}
+use native.Mathlib.Omega.{arith}
 use lib.ListN.{length}
 use Rattle.slicing.specs.Devices.{present, Rising}
 use Rattle.slicing_core.specs.Rows.{deviceRows}
@@ -16,13 +16,10 @@ use Rattle.slicing_core.specs.Stages.{Ascending}
 use Rattle.slicing_core.proofs.DeviceRows.{ascending-rising}
 use Rattle.slicing_core.proofs.Rows.{length-deviceRows}
 use Rattle.placement.specs.declared.Pool.{Pool}
-use Rattle.placement.specs.Pools.{stateOf, ValidPool, Zeros, Widened}
+use Rattle.placement.specs.declared.change.Opening.{Opening}
+use Rattle.placement.specs.Pools.{stateOf, Zeros}
+use Rattle.placement.specs.Promises.{Opened, Opens}
 use Rattle.placement.proofs.ValidParts.{valid-rising, valid-cleared, valid-limited}
-
-pub record Opened (p : Pool) (d c : List ℕ) : Type 0 where
-  pub valid : ValidPool p
-  pub ids : Widened (p .ids) 65536 256 d
-  pub capacities : Widened (p .capacities) 4294967296 256 c
 
 pub length-devices : (p : Pool) → length (stateOf p .devices) ≡ p .devices
 unfolding stateOf
@@ -54,3 +51,6 @@ module _ {p : Pool} {d c : List ℕ} (o : Opened p d c) where
 
   pub cleared-capacities : Zeros c (p .devices)
   cleared-capacities = subst (λ (xs : List ℕ). Zeros xs (p .devices)) (sym (o .capacities .same)) (valid-cleared p (o .valid) .noCapacities)
+
+pub row-below : {p : Pool} {id : ℕ} {r : Opening} → Opens p id r → r .present ≡ true → r .row < 256
+row-below o e = omega (arith, o .found e .0, opened-ascending (o .rows) .0)

@@ -11,11 +11,11 @@ use Rattle.slicing.specs.Limits.{maxId, outside}
 use Rattle.slicing_core.specs.Rows.{at, rows, deviceRows}
 use Rattle.slicing_core.proofs.DeviceRows.{position-present}
 use Rattle.placement.specs.Pools.{stateOf, ValidPool}
-use Rattle.placement.specs.Promises.{shareAnswer, Shared}
+use Rattle.placement.specs.Promises.{shareAnswer, Shared, Opened}
 use Rattle.placement.specs.declared.Pool.{Pool}
 use Rattle.placement.specs.declared.ShareAnswer.the-variants.{Share, Refused}
 use Rattle.placement.proofs.HeldRows.{shareOf-row}
-use Rattle.placement.proofs.OpenedPools.{Opened, opened-rows, opened-ascending}
+use Rattle.placement.proofs.OpenedPools.{opened-rows, opened-ascending}
 
 module _ {p : Pool} {id : ℕ} where
   pub shared-two : (ValidPool p × (outside maxId id ≡ false) → ⊥) → Shared p id (Refused 2)

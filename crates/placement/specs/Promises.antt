@@ -8,11 +8,17 @@
 --   changeOf c              the rules' change that a call asks for
 --   shareAnswer s id        the answer to the call for the share of id
 --   Shared p id r           r is that answer of the pool p
+--
+-- and inside, on a call's way:
+--
+--   Opened p d c            p is valid, and d and c hold its ids and capacities
+--   Opens p id r            r is that with the place of id
 --   Planned p es places r   r is the plan of a change to the devices es, before anything is stored
+--   Settled p es lent r l   r answers the change to the devices es, and l is the lent list afterwards
 use mathlib.Core.Path.{_≡_}
-use mathlib.Core.Bool.{cond, _||_}
+use mathlib.Core.Bool.{true, cond, _||_}
 use mathlib.Core.List.{List, [], _∷_, _++_}
-use Prim.Native.Nat.{ℕ, _*_, _≤_}
+use Prim.Native.Nat.{ℕ, _*_, _≤_, _<_}
 use lib.ListN.{length, drop}
 use Rattle.slicing.specs.Changes.{State, fresh, Change, add, remove, resize, Outcome, refused, settle, change}
 use Rattle.slicing.specs.Demand3.{written}
@@ -20,9 +26,9 @@ use Rattle.slicing.specs.Devices.{Device, present}
 use Rattle.slicing.specs.Limits.{maxRange, maxLimit, maxId, outside}
 use Rattle.slicing.specs.ShareRule.{shareOf}
 use Rattle.slicing.specs.SixSteps.{Move, move}
-use Rattle.slicing_core.specs.Rows.{moveRows}
-use Rattle.slicing_core.specs.Stages.{scratch}
-use Rattle.placement.specs.Pools.{stateOf, poolOf, ValidPool}
+use Rattle.slicing_core.specs.Rows.{at, moveRows}
+use Rattle.slicing_core.specs.Stages.{scratch, Position}
+use Rattle.placement.specs.Pools.{stateOf, poolOf, ValidPool, Widened}
 use Rattle.placement.specs.declared.Call.{Call}
 use Rattle.placement.specs.declared.Call.the-variants.{Add, Remove, Resize}
 use Rattle.placement.specs.declared.ChangeAnswer.{ChangeAnswer}
@@ -30,6 +36,7 @@ use Rattle.placement.specs.declared.Pool.{Pool}
 use Rattle.placement.specs.declared.PoolAnswer.{PoolAnswer}
 use Rattle.placement.specs.declared.ShareAnswer.{ShareAnswer}
 use Rattle.placement.specs.declared.ShareAnswer.the-variants.{Share, Refused}
+use Rattle.placement.specs.declared.change.Opening.{Opening}
 use Rattle.placement.specs.declared.settle.Plan.{Plan}
 
 abbrev pub movesIn : List ℕ → List Move
@@ -85,3 +92,17 @@ pub record Planned (p : Pool) (es : List Device) (places : ℕ) (r : Plan) : Typ
   pub pool : (lent : List Move) → length lent ≡ places → r .pool ≡ poolOf (settle (stateOf p) lent es .state)
   pub moves : (lent : List Move) → length lent ≡ places
       → moveRows (r .moves .starts) (r .moves .sizes) (r .moves .labels) 0 (r .moves .count) ≡ written (settle (stateOf p) lent es)
+
+pub record Opened (p : Pool) (d c : List ℕ) : Type 0 where
+  pub valid : ValidPool p
+  pub ids : Widened (p .ids) 65536 256 d
+  pub capacities : Widened (p .capacities) 4294967296 256 c
+
+pub record Opens (p : Pool) (id : ℕ) (r : Opening) : Type 0 where
+  pub rows : Opened p (r .ids) (r .capacities)
+  pub row : Position (r .ids) (p .devices) id (r .row)
+  pub present : r .present ≡ present id (stateOf p .devices)
+  pub found : r .present ≡ true → (r .row < p .devices) × (at (r .ids) (r .row) ≡ id)
+
+pub record Settled (p : Pool) (es : List Device) (lent : List ℕ) (r : ChangeAnswer) (after : List ℕ) : Type 0 where
+  pub answer : Answered lent (settle (stateOf p) (movesIn lent) es) (poolOf (settle (stateOf p) (movesIn lent) es .state)) r after

@@ -10,87 +10,32 @@ ghost use Rattle.slicing_core.specs.Stages.{Below, Decides};
 ghost use Rattle.placement.specs.Pools.{padded, startsOf, Zeros, Positive, Widened};
 ghost use Rattle.placement.specs.Pools.{ownersOf as Pools·ownersOf};
 
-// Copies the numbers of xs into 64-bit places, as many as they are.
-fn widen16(xs: &[u16], into: &mut [u64])
-    requires { ⌜ length (now into) ≡ length (now xs) ⌝ }
-    ensures { λ r. ⌜ Widened (now (xs .entry)) 65536 (length (now (xs .entry))) (now (into .exit)) ⌝ }
+// Copies n ids, and the numbers beside them, into 64-bit places: a pool's devices, or its intervals.
+pub fn widen(into: &mut [u64], beside: &mut [u64], ids: &[u16], values: &[u32], n: usize)
+    requires { ⌜ (length (now ids) ≡ n) × (length (now values) ≡ n) × (length (now into) ≡ n) × (length (now beside) ≡ n) ⌝ }
+    ensures ids { λ r. ⌜ Widened (now (ids .entry)) 65536 n (now (into .exit)) ⌝ }
+    ensures values { λ r. ⌜ Widened (now (values .entry)) 4294967296 n (now (beside .exit)) ⌝ }
 {
     let mut i = 0;
-    while i < xs.len() {
-        into[i] = xs[i] as u64;
+    while i < n {
+        into[i] = ids[i] as u64;
+        beside[i] = values[i] as u64;
         i += 1;
     }
 }
 
-fn widen32(xs: &[u32], into: &mut [u64])
-    requires { ⌜ length (now into) ≡ length (now xs) ⌝ }
-    ensures { λ r. ⌜ Widened (now (xs .entry)) 4294967296 (length (now (xs .entry))) (now (into .exit)) ⌝ }
+// Copies devices back into the places of a pool; all numbers fit.
+pub fn narrow(into: &mut [u16], beside: &mut [u32], ids: &[u64; 256], values: &[u64; 256])
+    requires { ⌜ (length (now ids) ≡ 256) × (length (now values) ≡ 256) × (length (now into) ≡ 256) × (length (now beside) ≡ 256) ⌝ }
+    requires { ⌜ Below 65536 (now ids) 256 × Below (2 ^ 32) (now values) 256 ⌝ }
+    ensures { λ r. ⌜ (now (into .exit) ≡ now (ids .entry)) × (now (beside .exit) ≡ now (values .entry)) ⌝ }
 {
-    let mut i = 0;
-    while i < xs.len() {
-        into[i] = xs[i] as u64;
-        i += 1;
-    }
-}
-
-// The numbers, widened.
-pub fn wide_ids(xs: [u16; 256]) -> [u64; 256]
-    ensures { λ r. ⌜ Widened xs 65536 256 r ⌝ }
-{
-    let mut into = [0u64; 256];
-    widen16(&xs, &mut into);
-    into
-}
-
-pub fn wide_capacities(xs: [u32; 256]) -> [u64; 256]
-    ensures { λ r. ⌜ Widened xs 4294967296 256 r ⌝ }
-{
-    let mut into = [0u64; 256];
-    widen32(&xs, &mut into);
-    into
-}
-
-pub fn wide_starts(xs: [u32; 4096]) -> [u64; 4096]
-    ensures { λ r. ⌜ Widened xs 4294967296 4096 r ⌝ }
-{
-    let mut into = [0u64; 4096];
-    widen32(&xs, &mut into);
-    into
-}
-
-pub fn wide_owners(xs: [u16; 4096]) -> [u64; 4096]
-    ensures { λ r. ⌜ Widened xs 65536 4096 r ⌝ }
-{
-    let mut into = [0u64; 4096];
-    widen16(&xs, &mut into);
-    into
-}
-
-// The numbers, narrowed; all of them fit.
-pub fn narrow_ids(xs: &[u64; 256]) -> [u16; 256]
-    requires { ⌜ (length (now xs) ≡ 256) × Below 65536 (now xs) 256 ⌝ }
-    ensures { λ r. ⌜ r ≡ now (xs .entry) ⌝ }
-{
-    let mut into = [0u16; 256];
     let mut i = 0;
     while i < 256 {
-        into[i] = xs[i] as u16;
+        into[i] = ids[i] as u16;
+        beside[i] = values[i] as u32;
         i += 1;
     }
-    into
-}
-
-pub fn narrow_capacities(xs: &[u64; 256]) -> [u32; 256]
-    requires { ⌜ (length (now xs) ≡ 256) × Below (2 ^ 32) (now xs) 256 ⌝ }
-    ensures { λ r. ⌜ r ≡ now (xs .entry) ⌝ }
-{
-    let mut into = [0u32; 256];
-    let mut i = 0;
-    while i < 256 {
-        into[i] = xs[i] as u32;
-        i += 1;
-    }
-    into
 }
 
 // Whether all from place n on are 0.

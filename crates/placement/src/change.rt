@@ -4,8 +4,7 @@ use crate::ChangeAnswer;
 use crate::Pool;
 use crate::PoolAnswer;
 use crate::ShareAnswer;
-use crate::arrays::wide_capacities;
-use crate::arrays::wide_ids;
+use crate::arrays::widen;
 use crate::list::write_moves;
 use crate::settle::Plan;
 use crate::settle::settle;
@@ -23,10 +22,11 @@ ghost use Rattle.slicing.specs.Changes as Changes;
 ghost use Rattle.slicing.specs.Devices as Devices;
 ghost use Rattle.slicing.specs.Limits as Limits;
 ghost use Rattle.slicing.specs.Runs.{_of_};
+ghost use Rattle.slicing.specs.Devices.{Rising};
 ghost use Rattle.slicing_core.specs.Rows.{at, deviceRows, moveRows};
 ghost use Rattle.slicing_core.specs.Stages.{scratch, Ascending, Decides, Position};
-ghost use Rattle.placement.specs.Pools.{poolOf, ValidPool};
-ghost use Rattle.placement.specs.Promises.{Fresh, Changed, Shared, changeOf, flat};
+ghost use Rattle.placement.specs.Pools.{poolOf, ValidPool, Zeros};
+ghost use Rattle.placement.specs.Promises.{Fresh, Changed, Shared, Opens, Settled, changeOf, flat};
 
 // A pool without devices.
 fn bare(range: u64, limit: u32) -> Pool
@@ -111,6 +111,22 @@ fn carried(plan: Plan, list: &mut [u64]) -> ChangeAnswer
     }
 }
 
+// Changes the pool to the n devices, and writes the moves into the list.
+fn settled(
+    pool: Pool,
+    n: usize,
+    ids: &[u64; 256],
+    capacities: &[u64; 256],
+    list: &mut [u64],
+) -> ChangeAnswer
+    requires { ⌜ ValidPool pool × (1 ≤ pool .devices) × (1 ≤ n) × (n ≤ 256) × Rising 0 (deviceRows (now ids) (now capacities) 0 n) ⌝ }
+    requires { ⌜ (length (now ids) ≡ 256) × (length (now capacities) ≡ 256) × Zeros (now ids) n × Zeros (now capacities) n ⌝ }
+    ensures { λ r. ⌜ Settled pool (deviceRows (now (ids .entry)) (now (capacities .entry)) 0 n) (now (list .entry)) r (now (list .exit)) ⌝ }
+{
+    let plan = settle(pool, n, ids, capacities, list.len() / 4);
+    carried(plan, &mut *list)
+}
+
 const MAX_ID: u64 = 65535;
 
 const MAX_CAPACITY: u64 = 1000000;
@@ -172,6 +188,32 @@ fn find(ids: &[u64; 256], n: usize, id: u64) -> Place
     }
 }
 
+// A pool's devices, and the place of an id among them.
+struct Opening {
+    ids: [u64; 256],
+    capacities: [u64; 256],
+    row: usize,
+    present: bool,
+}
+
+fn opened(pool: Pool, id: u64) -> Opening
+    requires { ⌜ ValidPool pool ⌝ }
+    ensures { λ r. ⌜ Opens pool id r ⌝ }
+{
+    let narrow_ids = pool.ids;
+    let narrow_capacities = pool.capacities;
+    let mut ids = [0u64; 256];
+    let mut capacities = [0u64; 256];
+    widen(&mut ids, &mut capacities, &narrow_ids, &narrow_capacities, 256);
+    let place = find(&ids, pool.devices, id);
+    Opening {
+        ids: ids,
+        capacities: capacities,
+        row: place.row,
+        present: place.present,
+    }
+}
+
 // The only device of a pool gets the whole range, and nothing moves.
 fn first(pool: Pool, id: u64, capacity: u64) -> ChangeAnswer
     requires { ⌜ ValidPool pool × (pool .devices ≡ 0) × (1 ≤ id) × (id ≤ 65535) × (capacity ≤ 1000000) ⌝ }
@@ -205,13 +247,9 @@ pub fn add(pool: Pool, id: u64, capacity: u64, list: &mut [u64]) -> ChangeAnswer
     if !admits(pool, id, capacity) {
         return refuse(pool, 2);
     }
+    let found = opened(pool, id);
     let n = pool.devices;
-    let narrow_ids = pool.ids;
-    let narrow_capacities = pool.capacities;
-    let ids = wide_ids(narrow_ids);
-    let capacities = wide_capacities(narrow_capacities);
-    let place = find(&ids, n, id);
-    if place.present {
+    if found.present {
         return refuse(pool, 4);
     }
     if n >= 256 {
@@ -220,10 +258,11 @@ pub fn add(pool: Pool, id: u64, capacity: u64, list: &mut [u64]) -> ChangeAnswer
     if n == 0 {
         return first(pool, id, capacity);
     }
-    let next_ids = insert_row(&ids, place.row, id);
-    let next_capacities = insert_row(&capacities, place.row, capacity);
-    let plan = settle(pool, n + 1, &next_ids, &next_capacities, list.len() / 4);
-    carried(plan, &mut *list)
+    let ids = found.ids;
+    let capacities = found.capacities;
+    let next_ids = insert_row(&ids, found.row, id);
+    let next_capacities = insert_row(&capacities, found.row, capacity);
+    settled(pool, n + 1, &next_ids, &next_capacities, &mut *list)
 }
 
 // Removes a device. 2 for a pool that is not valid or an id outside 1 to 65,535; 5 where it is absent;
@@ -234,22 +273,19 @@ pub fn remove(pool: Pool, id: u64, list: &mut [u64]) -> ChangeAnswer
     if !admits_id(pool, id) {
         return refuse(pool, 2);
     }
+    let found = opened(pool, id);
     let n = pool.devices;
-    let narrow_ids = pool.ids;
-    let narrow_capacities = pool.capacities;
-    let ids = wide_ids(narrow_ids);
-    let capacities = wide_capacities(narrow_capacities);
-    let place = find(&ids, n, id);
-    if !place.present {
+    if !found.present {
         return refuse(pool, 5);
     }
     if n <= 1 {
         return refuse(pool, 7);
     }
-    let next_ids = delete_row(&ids, place.row);
-    let next_capacities = delete_row(&capacities, place.row);
-    let plan = settle(pool, n - 1, &next_ids, &next_capacities, list.len() / 4);
-    carried(plan, &mut *list)
+    let ids = found.ids;
+    let capacities = found.capacities;
+    let next_ids = delete_row(&ids, found.row);
+    let next_capacities = delete_row(&capacities, found.row);
+    settled(pool, n - 1, &next_ids, &next_capacities, &mut *list)
 }
 
 // Gives a device another capacity. 2 as of an add; 5 where it is absent; 8 and 9 as of an add.
@@ -259,19 +295,16 @@ pub fn resize(pool: Pool, id: u64, capacity: u64, list: &mut [u64]) -> ChangeAns
     if !admits(pool, id, capacity) {
         return refuse(pool, 2);
     }
+    let found = opened(pool, id);
     let n = pool.devices;
-    let narrow_ids = pool.ids;
-    let narrow_capacities = pool.capacities;
-    let ids = wide_ids(narrow_ids);
-    let mut capacities = wide_capacities(narrow_capacities);
-    let place = find(&ids, n, id);
-    if !place.present {
+    if !found.present {
         return refuse(pool, 5);
     }
-    let row = place.row;
+    let row = found.row;
+    let ids = found.ids;
+    let mut capacities = found.capacities;
     capacities[row] = capacity;
-    let plan = settle(pool, n, &ids, &capacities, list.len() / 4);
-    carried(plan, &mut *list)
+    settled(pool, n, &ids, &capacities, &mut *list)
 }
 
 // One of the three: for callers that are handed a call.
@@ -292,16 +325,14 @@ pub fn share(pool: Pool, id: u64) -> ShareAnswer
     if !admits_id(pool, id) {
         return ShareAnswer::Refused(2);
     }
+    let found = opened(pool, id);
     let n = pool.devices;
-    let narrow_ids = pool.ids;
-    let narrow_capacities = pool.capacities;
-    let ids = wide_ids(narrow_ids);
-    let capacities = wide_capacities(narrow_capacities);
-    let place = find(&ids, n, id);
-    if !place.present {
+    if !found.present {
         return ShareAnswer::Refused(5);
     }
-    let row = place.row;
+    let row = found.row;
+    let ids = found.ids;
+    let capacities = found.capacities;
     let points = shares(pool.range, &ids, &capacities, n);
     let due = points[row];
     ShareAnswer::Share(due)

@@ -1,12 +1,10 @@
 // A change by the six steps, planned: nothing is stored before the checks 8 and 9 have passed.
 use crate::Pool;
 use crate::arrays::lengths_of;
-use crate::arrays::narrow_capacities;
-use crate::arrays::narrow_ids;
+use crate::arrays::narrow;
 use crate::arrays::owners_of;
 use crate::arrays::starts_of;
-use crate::arrays::wide_owners;
-use crate::arrays::wide_starts;
+use crate::arrays::widen;
 use slicing_core::moves::Moves;
 use slicing_core::moves::moves_of;
 use slicing_core::owned::by_owner;
@@ -62,8 +60,9 @@ fn turns_of(pool: Pool, n: usize, ids: &[u64; 256], capacities: &[u64; 256]) -> 
     let q = pool.intervals;
     let narrow_starts = pool.starts;
     let narrow_owners = pool.owners;
-    let starts = wide_starts(narrow_starts);
-    let owners = wide_owners(narrow_owners);
+    let mut starts = [0u64; 4096];
+    let mut owners = [0u64; 4096];
+    widen(&mut owners, &mut starts, &narrow_owners, &narrow_starts, 4096);
     let lengths = lengths_of(&starts, &owners, q, range);
     let mut points = none();
     by_owner(&mut points, &lengths, &owners, q);
@@ -87,12 +86,15 @@ fn packed(pool: Pool, n: usize, ids: &[u64; 256], capacities: &[u64; 256], table
     let sizes = table.sizes;
     let labels = table.labels;
     let q = table.count;
+    let mut narrow_ids = [0u16; 256];
+    let mut narrow_capacities = [0u32; 256];
+    narrow(&mut narrow_ids, &mut narrow_capacities, ids, capacities);
     Pool {
         range: pool.range,
         limit: pool.limit,
         devices: n,
-        ids: narrow_ids(ids),
-        capacities: narrow_capacities(capacities),
+        ids: narrow_ids,
+        capacities: narrow_capacities,
         intervals: q,
         starts: starts_of(&sizes, &labels, q),
         owners: owners_of(&sizes, &labels, q),

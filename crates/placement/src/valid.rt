@@ -1,10 +1,7 @@
 // Validity of a pool, whatever its numbers.
 use crate::Pool;
 use crate::arrays::lengths_of;
-use crate::arrays::wide_capacities;
-use crate::arrays::wide_ids;
-use crate::arrays::wide_owners;
-use crate::arrays::wide_starts;
+use crate::arrays::widen;
 use crate::arrays::zeros_from;
 use slicing_core::devices::rising;
 use slicing_core::owned::by_owner;
@@ -107,10 +104,12 @@ pub fn valid(pool: Pool) -> bool
     let narrow_owners = pool.owners;
     let n = pool.devices;
     let q = pool.intervals;
-    let ids = wide_ids(narrow_ids);
-    let capacities = wide_capacities(narrow_capacities);
-    let starts = wide_starts(narrow_starts);
-    let owners = wide_owners(narrow_owners);
+    let mut ids = [0u64; 256];
+    let mut capacities = [0u64; 256];
+    let mut starts = [0u64; 4096];
+    let mut owners = [0u64; 4096];
+    widen(&mut ids, &mut capacities, &narrow_ids, &narrow_capacities, 256);
+    widen(&mut owners, &mut starts, &narrow_owners, &narrow_starts, 4096);
     if !rising(&ids, &capacities, n) {
         return false;
     }

@@ -13,30 +13,24 @@ use Rattle.placement.proofs.ValidParts.{valid-limited}
 use Rattle.placement.proofs.settle.turns_of.Statement.{statement}
 use Rattle.placement.proofs.settle.turns_of.Tie as tie
 
-wide-starts-requires : tie.Need-wide-starts-requires
-wide-starts-requires c κs = search needs
-
-wide-owners-requires : tie.Need-wide-owners-requires
-wide-owners-requires c κs = search needs
+abbrev start : tie.After-widen → tie.Start
+start c = c .before .before .before .before .before .before .before
 
 lengths-of-requires : tie.Need-lengths-of-requires
 lengths-of-requires c κs =
-    let s = c .before .before .before .before .before .before in
+    let s = start (c .before .before .before .before) in
     intervals-most (s .args .pool) (s .pre .0) (s .pre .1)
-
-none-requires : tie.Need-none-requires
-none-requires c κs = search needs
 
 by-owner-requires : tie.Need-by-owner-requires
 by-owner-requires c κs =
     let z = c .before .before .before in
     let l = z .before in
-    let w = l .before .before .before in
-    let s = w .before .before .before .before in
-    let t = total-range (s .args .pool) (s .pre .0) (s .pre .1) _ _ _ (w .before .wide-starts .ensures) (w .wide-owners .ensures) (l .lengths-of .ensures .0) in (
+    let w = l .before .before .before .before .before in
+    let s = start w in
+    let t = total-range (s .args .pool) (s .pre .0) (s .pre .1) _ _ _ (w .widen .ensures .1) (w .widen .ensures .0) (l .lengths-of .ensures .0) in (
       (
         intervals-most (s .args .pool) (s .pre .0) (s .pre .1),
-        owners-below (s .args .pool) (s .pre .0) (s .pre .1) _ _ _ (w .before .wide-starts .ensures) (w .wide-owners .ensures) (l .lengths-of .ensures .0),
+        owners-below (s .args .pool) (s .pre .0) (s .pre .1) _ _ _ (w .widen .ensures .1) (w .widen .ensures .0) (l .lengths-of .ensures .0),
         omega (arith, t, valid-limited (s .args .pool) (s .pre .0) .most),
       ),
       (sym (z .none .ensures .0), z .none .ensures .1),
@@ -44,7 +38,7 @@ by-owner-requires c κs =
 
 shares-requires : tie.Need-shares-requires
 shares-requires c κs =
-    let s = c .before .before .before .before .before .before .before .before .before .before .before .before in
+    let s = start (c .before .before .before .before .before .before .before .before .before .before) in
     let d = s .args .ids .now in
     let k = s .args .capacities .now in
     let r = s .pre .4 in (
@@ -55,7 +49,7 @@ shares-requires c κs =
 quotas-requires : tie.Need-quotas-requires
 quotas-requires c κs =
     let b = c .before .before .before in
-    let s = b .before .before .before .before .before .before .before .before .before .before .before .before in (
+    let s = start (b .before .before .before .before .before .before .before .before .before .before) in (
       s .pre .3,
       below-rising (s .args .ids .now) (s .args .capacities .now) (s .args .n) (s .pre .4),
       ascending-rising (s .args .ids .now) (s .args .capacities .now) (s .args .n) (s .pre .4),
@@ -68,22 +62,22 @@ walk-requires c κs =
     let h = q .before .before .before in
     let b = h .before in
     let l = b .before .before .before .before .before in
-    let w = l .before .before .before in
-    let s = w .before .before .before .before in
+    let w = l .before .before .before .before .before in
+    let s = start w in
     let a = s .args in
     let v = s .pre .0 in
-    let t = total-range (a .pool) v (s .pre .1) _ _ _ (w .before .wide-starts .ensures) (w .wide-owners .ensures) (l .lengths-of .ensures .0) in (
+    let t = total-range (a .pool) v (s .pre .1) _ _ _ (w .widen .ensures .1) (w .widen .ensures .0) (l .lengths-of .ensures .0) in (
       (
         intervals-most (a .pool) v (s .pre .1),
         s .pre .3,
-        owners-below (a .pool) v (s .pre .1) _ _ _ (w .before .wide-starts .ensures) (w .wide-owners .ensures) (l .lengths-of .ensures .0),
+        owners-below (a .pool) v (s .pre .1) _ _ _ (w .widen .ensures .1) (w .widen .ensures .0) (l .lengths-of .ensures .0),
         below-rising (a .ids .now) (a .capacities .now) (a .n) (s .pre .4),
       ),
       (
         (q .quotas .ensures .leftSize, q .quotas .ensures .needsSize),
         (
           omega (arith, t, valid-limited (a .pool) v .most),
-          takens-of (a .pool) v (s .pre .1) _ _ _ (w .before .wide-starts .ensures) (w .wide-owners .ensures) (l .lengths-of .ensures .0)
+          takens-of (a .pool) v (s .pre .1) _ _ _ (w .widen .ensures .1) (w .widen .ensures .0) (l .lengths-of .ensures .0)
               (a .ids .now) (a .capacities .now) (a .n) (s .pre .4) (s .pre .2) _ _ (b .by-owner .ensures .1) (b .by-owner .ensures .0)
               (h .shares .ensures .0) _ _ (q .quotas .ensures),
         ),
@@ -96,12 +90,12 @@ returns c =
     let h = q .before .before .before in
     let b = h .before in
     let l = b .before .before .before .before .before in
-    let w = l .before .before .before in
-    let s = w .before .before .before .before in
+    let w = l .before .before .before .before .before in
+    let s = start w in
     let a = s .args in (
       c .walk .ensures .0
           ∙ ap (coalesce sameTurn)
-          (turns-of (a .pool) (s .pre .0) (s .pre .1) _ _ _ (w .before .wide-starts .ensures) (w .wide-owners .ensures) (l .lengths-of .ensures .0)
+          (turns-of (a .pool) (s .pre .0) (s .pre .1) _ _ _ (w .widen .ensures .1) (w .widen .ensures .0) (l .lengths-of .ensures .0)
           (a .ids .now) (a .capacities .now) (a .n) (s .pre .4) (s .pre .2) _ _ (b .by-owner .ensures .1) (b .by-owner .ensures .0)
           (h .shares .ensures .0) _ _ (q .quotas .ensures)),
       c .walk .ensures .1,
@@ -111,10 +105,13 @@ pub turns-of-spec : {M : Type 1} → statement M
 turns-of-spec =
     tie.close
     (tie.spec
-    wide-starts-requires
-    wide-owners-requires
+    (λ c. search needs)
+    (λ c. search needs)
+    (λ c. search needs)
+    (λ c. search needs)
+    (λ c κs. search needs)
     lengths-of-requires
-    none-requires
+    (λ c κs. search needs)
     by-owner-requires
     shares-requires
     quotas-requires

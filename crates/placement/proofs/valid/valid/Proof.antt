@@ -1,5 +1,6 @@
 -- `placement::valid::valid` meets its contract: each part of validity is decided by a call, on arrays that hold the pool's numbers.
-use Prim.Native.Nat.{_≤_}
+use mathlib.Core.List.{List}
+use Prim.Native.Nat.{ℕ, _≤_}
 use native.Mathlib.Omega.{arith}
 use borrow.Author.Needs.{needs}
 use borrow.Author.Tests.{not-true, not-false}
@@ -12,38 +13,50 @@ use Rattle.placement.proofs.WidePools.{Wide, below-wide, rising-refused
 use Rattle.placement.proofs.valid.valid.Statement.{statement}
 use Rattle.placement.proofs.valid.valid.Tie as tie
 
-abbrev within : tie.After-wide-owners → tie.Else1
-within c = c .before .before .before .before .before .before .before .before
+abbrev devices : tie.After-widen2 → tie.After-widen
+devices c = c .before .before .before .before .before .before .before
 
-abbrev pool : tie.After-wide-owners → Pool
+abbrev within : tie.After-widen2 → tie.Else1
+within c = devices c .before .before .before .before .before .before .before .before .before
+
+abbrev pool : tie.After-widen2 → Pool
 pool c = within c .before .before .args .pool
 
-wide : (c : tie.After-wide-owners)
-    → Wide (pool c) (c .before .before .before .wide-ids .result) (c .before .before .wide-capacities .result) (c .before .wide-starts .result)
-    (c .wide-owners .result)
+abbrev ids : tie.After-widen2 → List ℕ
+ids c = devices c .widen .last .0
+
+abbrev capacities : tie.After-widen2 → List ℕ
+capacities c = devices c .widen .last .1 .0
+
+abbrev owners : tie.After-widen2 → List ℕ
+owners c = c .widen2 .last .0
+
+abbrev starts : tie.After-widen2 → List ℕ
+starts c = c .widen2 .last .1 .0
+
+wide : (c : tie.After-widen2) → Wide (pool c) (ids c) (capacities c) (starts c) (owners c)
 wide c = record {
-  ids = c .before .before .before .wide-ids .ensures;
-  capacities = c .before .before .wide-capacities .ensures;
-  starts = c .before .wide-starts .ensures;
-  owners = c .wide-owners .ensures;
+  ids = devices c .widen .ensures .0;
+  capacities = devices c .widen .ensures .1;
+  starts = c .widen2 .ensures .1;
+  owners = c .widen2 .ensures .0;
 }
 
 limits : (c : tie.Else1) → Limited (c .before .before .args .pool)
 limits c = rw (not-false (c .before .limited .result) (c .if1 .left)) at (c .before .limited .ensures)
 
-abbrev widened : tie.After-rising → tie.After-wide-owners
-widened c = c .before .before .before
+abbrev widened : tie.After-rising → tie.After-widen2
+widened c = c .before .before .before .before .before
 
 rises : (c : tie.Else2) → let w = widened (c .before) in
-    Rising 0 (deviceRows (w .before .before .before .wide-ids .result) (w .before .before .wide-capacities .result) 0 (pool w .devices))
+    Rising 0 (deviceRows (ids w) (capacities w) 0 (pool w .devices))
 rises c = rw (not-false (c .before .rising .result) (c .if2 .left)) at (c .before .rising .ensures)
 
 abbrev risen : tie.After-cleared → tie.Else2
 risen c = c .before .before .before .before .before
 
 clears : (c : tie.Else3) → let w = widened (risen (c .before) .before) in
-    Cleared (w .before .before .before .wide-ids .result) (w .before .before .wide-capacities .result) (pool w .devices)
-    (w .before .wide-starts .result) (w .wide-owners .result) (pool w .intervals)
+    Cleared (ids w) (capacities w) (pool w .devices) (starts w) (owners w) (pool w .intervals)
 clears c = rw (not-false (c .before .cleared .result) (c .if3 .left)) at (c .before .cleared .ensures)
 
 limited-requires : tie.Need-limited-requires
@@ -52,20 +65,8 @@ limited-requires c κs = search needs
 returns : tie.Need-returns
 returns c = λ v. (rw (not-true (c .before .limited .result) (c .if1 .taken)) at (c .before .limited .ensures)) (valid-limited _ v)
 
-wide-ids-requires : tie.Need-wide-ids-requires
-wide-ids-requires c κs = search needs
-
-wide-capacities-requires : tie.Need-wide-capacities-requires
-wide-capacities-requires c κs = search needs
-
-wide-starts-requires : tie.Need-wide-starts-requires
-wide-starts-requires c κs = search needs
-
-wide-owners-requires : tie.Need-wide-owners-requires
-wide-owners-requires c κs = search needs
-
 rising-requires : tie.Need-rising-requires
-rising-requires c κs = limits (within (c .before .before)) .few
+rising-requires c κs = limits (within (c .before .before .before .before)) .few
 
 returns-2 : tie.Need-returns-2
 returns-2 c =
@@ -111,10 +112,16 @@ valid-spec =
     (tie.spec
     limited-requires
     returns
-    wide-ids-requires
-    wide-capacities-requires
-    wide-starts-requires
-    wide-owners-requires
+    (λ c. search needs)
+    (λ c. search needs)
+    (λ c. search needs)
+    (λ c. search needs)
+    (λ c κs. search needs)
+    (λ c. search needs)
+    (λ c. search needs)
+    (λ c. search needs)
+    (λ c. search needs)
+    (λ c κs. search needs)
     rising-requires
     returns-2
     cleared-requires
