@@ -204,7 +204,13 @@ fn opened(pool: Pool, id: u64) -> Opening
     let narrow_capacities = pool.capacities;
     let mut ids = [0u64; 256];
     let mut capacities = [0u64; 256];
-    widen(&mut ids, &mut capacities, &narrow_ids, &narrow_capacities, 256);
+    widen(
+        &mut ids,
+        &mut capacities,
+        &narrow_ids,
+        &narrow_capacities,
+        256,
+    );
     let place = find(&ids, pool.devices, id);
     Opening {
         ids: ids,

@@ -62,7 +62,13 @@ fn turns_of(pool: Pool, n: usize, ids: &[u64; 256], capacities: &[u64; 256]) -> 
     let narrow_owners = pool.owners;
     let mut starts = [0u64; 4096];
     let mut owners = [0u64; 4096];
-    widen(&mut owners, &mut starts, &narrow_owners, &narrow_starts, 4096);
+    widen(
+        &mut owners,
+        &mut starts,
+        &narrow_owners,
+        &narrow_starts,
+        4096,
+    );
     let lengths = lengths_of(&starts, &owners, q, range);
     let mut points = none();
     by_owner(&mut points, &lengths, &owners, q);

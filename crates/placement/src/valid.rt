@@ -108,8 +108,20 @@ pub fn valid(pool: Pool) -> bool
     let mut capacities = [0u64; 256];
     let mut starts = [0u64; 4096];
     let mut owners = [0u64; 4096];
-    widen(&mut ids, &mut capacities, &narrow_ids, &narrow_capacities, 256);
-    widen(&mut owners, &mut starts, &narrow_owners, &narrow_starts, 4096);
+    widen(
+        &mut ids,
+        &mut capacities,
+        &narrow_ids,
+        &narrow_capacities,
+        256,
+    );
+    widen(
+        &mut owners,
+        &mut starts,
+        &narrow_owners,
+        &narrow_starts,
+        4096,
+    );
     if !rising(&ids, &capacities, n) {
         return false;
     }
