@@ -21,6 +21,7 @@ use Rattle.slicing.specs.Runs.{intervals}
 use Rattle.slicing.proofs.Changes.{valid-change}
 use Rattle.slicing.proofs.Demand3.{demand3}
 use Rattle.slicing_core.specs.Stages.{scratch}
+use Rattle.slicing_core.proofs.Outcomes.{Alike, alike-change}
 use Rattle.placement.specs.Pools.{stateOf, poolOf, ValidPool}
 use Rattle.placement.specs.Promises as Flat
 use Rattle.placement.specs.Promises.{movesIn, flat}
@@ -34,7 +35,6 @@ use Rattle.images.specs.Format.{imageOf}
 use Rattle.images.specs.Promises.{ReadAs, WrittenAs}
 use Rattle.images.specs.declared.WriteAnswer.{WriteAnswer}
 use Rattle.images.specs.declared.WriteAnswer.the-variants as Write
-use Rattle.move_lists.proofs.Outcomes.{Alike, alike-change}
 use Rattle.gorvyts.specs.Promises.{Moved, unmoved, movedAs, Changed}
 use Rattle.gorvyts.proofs.OnImages.{on-image-refused, on-image-accepted}
 

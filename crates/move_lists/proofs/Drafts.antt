@@ -19,6 +19,7 @@ use Rattle.slicing.specs.SixSteps as Rules
 use Rattle.slicing.specs.Validity.{Valid}
 use Rattle.slicing.proofs.Demand3.{demand3}
 use Rattle.slicing_core.specs.Stages.{scratch}
+use Rattle.slicing_core.proofs.Outcomes.{Alike, alike-refused, alike-change}
 use Rattle.placement.specs.Pools.{stateOf, poolOf, ValidPool}
 use Rattle.placement.specs.Promises as Flat
 use Rattle.placement.specs.declared.ChangeAnswer.{ChangeAnswer}
@@ -28,7 +29,6 @@ use Rattle.move_lists.specs.Promises.{moveOf, rowOf, Answered, Changed, 
 use Rattle.move_lists.specs.declared.Draft.{Draft}
 use Rattle.move_lists.specs.declared.Move.{Move}
 use Rattle.move_lists.proofs.FlatRows.{take-movesIn}
-use Rattle.move_lists.proofs.Outcomes.{Alike, alike-refused, alike-change}
 
 -- the moves of an outcome are as many as it says, and fit the list
 module _ (s : State) (v : Valid s) (lent : List Rules.Move) (k : Change) where

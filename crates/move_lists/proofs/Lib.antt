@@ -1,5 +1,3 @@
-pub mod MoveCounts
-pub mod Outcomes
 pub mod FlatRows
 pub mod Drafts
 pub mod PassedOn

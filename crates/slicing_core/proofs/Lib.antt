@@ -14,3 +14,5 @@ pub mod MoveRows
 pub mod JoinedRows
 pub mod Settled
 pub mod Fronts
+pub mod MoveCounts
+pub mod Outcomes

@@ -19,18 +19,6 @@ loop-holds : tie.Need-loop-holds Inv-loop μ-loop
 unfolding many
 loop-holds c = search needs
 
-cast-first-word : tie.Need-cast-first-word Inv-loop μ-loop
-cast-first-word c = search needs
-
-first-word-requires : tie.Need-first-word-requires Inv-loop μ-loop
-first-word-requires c κs = search needs
-
-add-i : tie.Need-add-i Inv-loop μ-loop
-add-i c = search needs
-
-loop-less : tie.Need-loop-less Inv-loop μ-loop
-loop-less c = search needs
-
 loop-again : tie.Need-loop-again Inv-loop μ-loop
 unfolding many
 loop-again c = (omega arith, rw add-one (ap₂ bitXor (c .before .before .loop .inv .1) (c .first-word .ensures)))
@@ -45,9 +33,9 @@ bench-sha1-many-spec =
     Inv-loop
     μ-loop
     loop-holds
-    cast-first-word
-    first-word-requires
-    add-i
-    loop-less
+    (λ c. search needs)
+    (λ c κs. search needs)
+    (λ c. search needs)
+    (λ c. search needs)
     loop-again
     returns)

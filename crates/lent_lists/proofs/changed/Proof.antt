@@ -4,24 +4,6 @@ use Rattle.lent_lists.proofs.Afterwards.{lends-called}
 use Rattle.lent_lists.proofs.changed.Statement.{statement}
 use Rattle.lent_lists.proofs.changed.Tie as tie
 
-enum-known-call : tie.Need-enum-known-call
-enum-known-call c = search needs
-
-add-requires : tie.Need-add-requires
-add-requires c κs = search needs
-
-enum-known-call-2 : tie.Need-enum-known-call-2
-enum-known-call-2 c = search needs
-
-remove-requires : tie.Need-remove-requires
-remove-requires c κs = search needs
-
-enum-known-call-3 : tie.Need-enum-known-call-3
-enum-known-call-3 c = search needs
-
-resize-requires : tie.Need-resize-requires
-resize-requires c κs = search needs
-
 returns : tie.Need-returns
 returns c =
     let v = c .before .before in
@@ -44,12 +26,12 @@ pub changed-spec : {M : Type 1} → statement M
 changed-spec =
     tie.close
     (tie.spec
-    enum-known-call
-    add-requires
-    enum-known-call-2
-    remove-requires
-    enum-known-call-3
-    resize-requires
+    (λ c. search needs)
+    (λ c κs. search needs)
+    (λ c. search needs)
+    (λ c κs. search needs)
+    (λ c. search needs)
+    (λ c κs. search needs)
     returns
     returns-2
     returns-3)

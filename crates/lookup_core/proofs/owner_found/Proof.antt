@@ -24,9 +24,6 @@ mul-wide-owner c = omega (arith, most-is (c .before .before))
 element-copy-out-wide-owner : tie.Need-element-copy-out-wide-owner
 element-copy-out-wide-owner c = omega (arith, most-is (c .before .before))
 
-wide-owner-requires : tie.Need-wide-owner-requires
-wide-owner-requires c κs = search needs
-
 returns-2 : tie.Need-returns-2
 returns-2 c =
     let found = c .before .before in
@@ -36,10 +33,4 @@ returns-2 c =
 pub owner-found-spec : {M : Type 1} → statement M
 owner-found-spec =
     tie.close
-    (tie.spec
-    returns
-    place-requires
-    mul-wide-owner
-    element-copy-out-wide-owner
-    wide-owner-requires
-    returns-2)
+    (tie.spec returns place-requires mul-wide-owner element-copy-out-wide-owner (λ c κs. search needs) returns-2)

@@ -14,31 +14,13 @@ abbrev μ-loop : tie.MeasureT-loop
 loop-holds : tie.Need-loop-holds Inv-loop μ-loop
 loop-holds c = halved-all _ _ _ (c .pre .0)
 
-add-loop : tie.Need-add-loop Inv-loop μ-loop
-add-loop c = omega arith
-
-add-middle : tie.Need-add-middle Inv-loop μ-loop
-add-middle c = omega arith
-
-mul-wide-start : tie.Need-mul-wide-start Inv-loop μ-loop
-mul-wide-start c = omega arith
-
-element-copy-out-wide-start : tie.Need-element-copy-out-wide-start Inv-loop μ-loop
-element-copy-out-wide-start c = omega arith
-
 wide-start-requires : tie.Need-wide-start-requires Inv-loop μ-loop
 wide-start-requires c κs = tt
-
-loop-less : tie.Need-loop-less Inv-loop μ-loop
-loop-less c = omega arith
 
 loop-again : tie.Need-loop-again Inv-loop μ-loop
 loop-again c =
     let inside = c .before .before .before in
     halved-up _ _ _ _ _ (inside .before .loop .inv) (omega (arith, inside .loop-test .taken)) (omega arith)
-
-loop-less-2 : tie.Need-loop-less-2 Inv-loop μ-loop
-loop-less-2 c = omega arith
 
 loop-again-2 : tie.Need-loop-again-2 Inv-loop μ-loop
 loop-again-2 c =
@@ -55,13 +37,13 @@ place-spec =
     Inv-loop
     μ-loop
     loop-holds
-    add-loop
-    add-middle
-    mul-wide-start
-    element-copy-out-wide-start
+    (λ c. omega arith)
+    (λ c. omega arith)
+    (λ c. omega arith)
+    (λ c. omega arith)
     wide-start-requires
-    loop-less
+    (λ c. omega arith)
     loop-again
-    loop-less-2
+    (λ c. omega arith)
     loop-again-2
     returns)

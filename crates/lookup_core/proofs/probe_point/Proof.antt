@@ -7,12 +7,6 @@ use Rattle.lookup_core.specs.Probes.{pointOf, scaled}
 use Rattle.lookup_core.proofs.probe_point.Statement.{statement}
 use Rattle.lookup_core.proofs.probe_point.Tie as tie
 
-first-word-requires : tie.Need-first-word-requires
-first-word-requires c κs = search needs
-
-cast-h : tie.Need-cast-h
-cast-h c = search needs
-
 mul-result : tie.Need-mul-result
 mul-result c = omega (arith, mul-le-mul-left (c .first-word .result) (c .before .pre), c .first-word .ok)
 
@@ -21,4 +15,4 @@ unfolding pointOf
 returns c = ap (λ h. scaled h (c .before .args .range)) (c .first-word .ensures)
 
 pub probe-point-spec : {M : Type 1} → statement M
-probe-point-spec = tie.close (tie.spec first-word-requires cast-h mul-result returns)
+probe-point-spec = tie.close (tie.spec (λ c κs. search needs) (λ c. search needs) mul-result returns)

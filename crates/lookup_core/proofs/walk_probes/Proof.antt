@@ -40,23 +40,8 @@ probe-point-requires c κs = c .before .before .pre .2
 owner-found-requires : tie.Need-owner-found-requires Inv-loop μ-loop
 owner-found-requires c κs = tt
 
-cast-owner : tie.Need-cast-owner Inv-loop μ-loop
-cast-owner c = omega arith
-
-add-t : tie.Need-add-t Inv-loop μ-loop
-add-t c = omega arith
-
 chosen-requires : tie.Need-chosen-requires Inv-loop μ-loop
 chosen-requires c κs = (omega arith, walking-size _ _ _ _ _ _ _ _ _ (c .before .before .before .before .loop .inv))
-
-mul-list : tie.Need-mul-list Inv-loop μ-loop
-mul-list c = omega arith
-
-array-write-list : tie.Need-array-write-list Inv-loop μ-loop
-array-write-list c = omega arith
-
-add-found : tie.Need-add-found Inv-loop μ-loop
-add-found c = omega arith
 
 returns : tie.Need-returns Inv-loop μ-loop
 returns c =
@@ -64,17 +49,11 @@ returns c =
     let inside = owner .before .before in
     walking-last _ _ _ _ _ _ _ _ _ (inside .before .loop .inv) _ (owner-is owner) (omega (arith, inside .loop-test .taken)) (unseen (c .before)) (c .if2 .taken)
 
-loop-less : tie.Need-loop-less Inv-loop μ-loop
-loop-less c = omega arith
-
 loop-again : tie.Need-loop-again Inv-loop μ-loop
 loop-again c =
     let owner = c .before .before .before .before in
     let inside = owner .before .before in
     walking-more _ _ _ _ _ _ _ _ _ (inside .before .loop .inv) _ (owner-is owner) (omega (arith, inside .loop-test .taken)) (unseen (c .before)) (c .if2 .left)
-
-loop-less-2 : tie.Need-loop-less-2 Inv-loop μ-loop
-loop-less-2 c = omega arith
 
 loop-again-2 : tie.Need-loop-again-2 Inv-loop μ-loop
 loop-again-2 c =
@@ -95,15 +74,15 @@ walk-probes-spec =
     loop-holds
     probe-point-requires
     owner-found-requires
-    cast-owner
-    add-t
+    (λ c. omega arith)
+    (λ c. omega arith)
     chosen-requires
-    mul-list
-    array-write-list
-    add-found
+    (λ c. omega arith)
+    (λ c. omega arith)
+    (λ c. omega arith)
     returns
-    loop-less
+    (λ c. omega arith)
     loop-again
-    loop-less-2
+    (λ c. omega arith)
     loop-again-2
     returns-2)

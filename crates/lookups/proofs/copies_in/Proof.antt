@@ -12,16 +12,10 @@ use Rattle.lookups.specs.declared.Counters.{Counters}
 use Rattle.lookups.proofs.copies_in.Statement.{statement}
 use Rattle.lookups.proofs.copies_in.Tie as tie
 
-refused-requires : tie.Need-refused-requires
-refused-requires c κs = search needs
-
 returns : tie.Need-returns
 returns c =
     let a = c .before .before .args in
     record { found = refuses-eleven _ (a .devices) (a .k) (a .counters) (c .refused .result) (rw (lt-ltb (a .k) 1 (c .before .if1 .taken))) (c .refused .ensures) }
-
-refused-requires-2 : tie.Need-refused-requires-2
-refused-requires-2 c κs = search needs
 
 returns-2 : tie.Need-returns-2
 returns-2 c =
@@ -31,9 +25,6 @@ returns-2 c =
       found = refuses-eleven _ (a .devices) (a .k) (a .counters) (c .refused2 .result)
           (rw (le-ltb (a .k) 1 (t .before .if1 .left), lt-ltb 8 (a .k) (omega (arith, t .if2 .taken)))) (c .refused2 .ensures);
     }
-
-refused-requires-3 : tie.Need-refused-requires-3
-refused-requires-3 c κs = search needs
 
 returns-3 : tie.Need-returns-3
 returns-3 c =
@@ -52,9 +43,6 @@ walk-probes-requires : tie.Need-walk-probes-requires
 walk-probes-requires c κs =
     (c .before .before .before .if1 .left, c .before .before .if2 .left, omega (arith, capped c))
 
-refused-requires-4 : tie.Need-refused-requires-4
-refused-requires-4 c κs = search needs
-
 walked : (c : tie.After-walk-probes) →
     let a = c .before .before .before .before .before .args in
     Walked (a .starts .now) (a .owners .now) (a .intervals) (min (a .range) maxRange) (a .block) (a .k) (c .walk-probes .result)
@@ -71,12 +59,6 @@ returns-4 c =
     refuses-twelve (a .starts .now) (a .owners .now) (a .intervals) (a .devices) (a .range) (a .block) (a .k) (a .counters)
     (w .walk-probes .result) (c .refused4 .result)
     (n .before .before .if1 .left) (n .before .if2 .left) (n .if3 .left) (walked w) (c .before .if5 .taken) (c .refused4 .ensures)
-
-raised-requires : tie.Need-raised-requires
-raised-requires c κs = search needs
-
-raised-requires-2 : tie.Need-raised-requires-2
-raised-requires-2 c κs = search needs
 
 abbrev Equal : Counters → Counters → Type 0
 Equal a b = a ≡ b
@@ -99,15 +81,15 @@ pub copies-in-spec : {M : Type 1} → statement M
 copies-in-spec =
     tie.close
     (tie.spec
-    refused-requires
+    (λ c κs. search needs)
     returns
-    refused-requires-2
+    (λ c κs. search needs)
     returns-2
-    refused-requires-3
+    (λ c κs. search needs)
     returns-3
     walk-probes-requires
-    refused-requires-4
+    (λ c κs. search needs)
     returns-4
-    raised-requires
-    raised-requires-2
+    (λ c κs. search needs)
+    (λ c κs. search needs)
     returns-5)

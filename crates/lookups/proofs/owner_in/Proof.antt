@@ -17,9 +17,6 @@ returns-2 c =
     let a = c .before .before .args in
     rw (lt-leb (a .range) (a .point) (c .before .if1 .left), eq-eqb (a .devices) 0 (c .if2 .taken))
 
-owner-found-requires : tie.Need-owner-found-requires
-owner-found-requires c κs = search needs
-
 returns-3 : tie.Need-returns-3
 returns-3 c =
     let h = c .before in
@@ -27,4 +24,4 @@ returns-3 c =
     rw (lt-leb (a .range) (a .point) (h .before .if1 .left), ne-eqb (a .devices) 0 (h .if2 .left)) (ap Owner (c .owner-found .ensures .0))
 
 pub owner-in-spec : {M : Type 1} → statement M
-owner-in-spec = tie.close (tie.spec returns returns-2 owner-found-requires returns-3)
+owner-in-spec = tie.close (tie.spec returns returns-2 (λ c κs. search needs) returns-3)

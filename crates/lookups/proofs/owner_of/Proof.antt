@@ -4,13 +4,10 @@ use Rattle.lookups.proofs.Promised.{looked-in}
 use Rattle.lookups.proofs.owner_of.Statement.{statement}
 use Rattle.lookups.proofs.owner_of.Tie as tie
 
-owner-in-requires : tie.Need-owner-in-requires
-owner-in-requires c κs = search needs
-
 returns : tie.Need-returns
 returns c =
     let a = c .before .before .before .before .before .args in
     looked-in (a .pool) (a .point) (c .owner-in .result) (c .owner-in .ensures)
 
 pub owner-of-spec : {M : Type 1} → statement M
-owner-of-spec = tie.close (tie.spec owner-in-requires returns)
+owner-of-spec = tie.close (tie.spec (λ c κs. search needs) returns)

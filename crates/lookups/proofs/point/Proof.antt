@@ -23,12 +23,6 @@ returns-3 c =
     let a = c .before .before .before .args in
     rw (le-ltb 255 (a .probe) (c .before .before .if1 .left), le-ltb (a .range) 1 (c .before .if2 .left), lt-ltb maxRange (a .range) (c .if3 .taken))
 
-cast-probe-point : tie.Need-cast-probe-point
-cast-probe-point c = search needs
-
-probe-point-requires : tie.Need-probe-point-requires
-probe-point-requires c κs = search needs
-
 returns-4 : tie.Need-returns-4
 returns-4 c =
     let h = c .before in
@@ -37,4 +31,4 @@ returns-4 c =
     (ap Point (c .probe-point .ensures))
 
 pub point-spec : {M : Type 1} → statement M
-point-spec = tie.close (tie.spec returns returns-2 returns-3 cast-probe-point probe-point-requires returns-4)
+point-spec = tie.close (tie.spec returns returns-2 returns-3 (λ c. search needs) (λ c κs. search needs) returns-4)

@@ -6,22 +6,10 @@ use Rattle.move_lists.proofs.Drafts.{lent-length, lent-back, drawn-lent
 use Rattle.move_lists.proofs.draw.Statement.{statement}
 use Rattle.move_lists.proofs.draw.Tie as tie
 
-blank-requires : tie.Need-blank-requires
-blank-requires c κs = search needs
-
-numbers-of-requires : tie.Need-numbers-of-requires
-numbers-of-requires c κs = search needs
-
-array-borrow-prefix-numbers : tie.Need-array-borrow-prefix-numbers
-array-borrow-prefix-numbers c = search needs
-
 slice-aggregate-changed : tie.Need-slice-aggregate-changed
 slice-aggregate-changed c =
     let b = c .before .before in
     sym (lent-length (b .before .args .places) (c .before .numbers-of .result) (b .blank .result) (b .blank .ensures) (c .before .numbers-of .ensures))
-
-changed-requires : tie.Need-changed-requires
-changed-requires c κs = search needs
 
 rows-of-requires : tie.Need-rows-of-requires
 rows-of-requires c κs =
@@ -45,10 +33,10 @@ pub draw-spec : {M : Type 1} → statement M
 draw-spec =
     tie.close
     (tie.spec
-    blank-requires
-    numbers-of-requires
-    array-borrow-prefix-numbers
+    (λ c κs. search needs)
+    (λ c κs. search needs)
+    (λ c. search needs)
     slice-aggregate-changed
-    changed-requires
+    (λ c κs. search needs)
     rows-of-requires
     returns)

@@ -3,11 +3,5 @@ use borrow.Author.Needs.{needs}
 use Rattle.move_lists.proofs.draw_add.Statement.{statement}
 use Rattle.move_lists.proofs.draw_add.Tie as tie
 
-draw-requires : tie.Need-draw-requires
-draw-requires c κs = search needs
-
-returns : tie.Need-returns
-returns c = search needs
-
 pub draw-add-spec : {M : Type 1} → statement M
-draw-add-spec = tie.close (tie.spec draw-requires returns)
+draw-add-spec = tie.close (tie.spec (λ c κs. search needs) (λ c. search needs))

@@ -4,14 +4,8 @@ use Rattle.gorvyts.proofs.FirstPlaces.{put-first}
 use Rattle.gorvyts.proofs.answers.put1.Statement.{statement}
 use Rattle.gorvyts.proofs.answers.put1.Tie as tie
 
-slice-write-answer : tie.Need-slice-write-answer
-slice-write-answer c = search needs
-
-same-length : tie.Need-same-length
-same-length c = search needs
-
 returns : tie.Need-returns
 returns c = put-first (c .args .answer .now) (c .args .x) (c .pre)
 
 pub put1-spec : {M : Type 1} → statement M
-put1-spec = tie.close (tie.spec slice-write-answer same-length returns)
+put1-spec = tie.close (tie.spec (λ c. search needs) (λ c. search needs) returns)

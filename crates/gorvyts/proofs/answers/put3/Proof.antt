@@ -6,17 +6,8 @@ use Rattle.gorvyts.proofs.FirstPlaces.{put-firsts}
 use Rattle.gorvyts.proofs.answers.put3.Statement.{statement}
 use Rattle.gorvyts.proofs.answers.put3.Tie as tie
 
-slice-write-answer : tie.Need-slice-write-answer
-slice-write-answer c = search needs
-
 slice-write-answer-2 : tie.Need-slice-write-answer-2
 slice-write-answer-2 c = omega (arith, length-set (c .args .answer .now) 0 (c .args .x))
-
-slice-write-answer-3 : tie.Need-slice-write-answer-3
-slice-write-answer-3 c = search needs
-
-same-length : tie.Need-same-length
-same-length c = search needs
 
 returns : tie.Need-returns
 returns c = put-firsts (c .args .answer .now) (c .args .x) (c .args .y) (c .args .z) (c .pre)
@@ -24,4 +15,4 @@ returns c = put-firsts (c .args .answer .now) (c .args .x) (c .args .y) (c .args
 pub put3-spec : {M : Type 1} → statement M
 put3-spec =
     tie.close
-    (tie.spec slice-write-answer slice-write-answer-2 slice-write-answer-3 same-length returns)
+    (tie.spec (λ c. search needs) slice-write-answer-2 (λ c. search needs) (λ c. search needs) returns)

@@ -7,30 +7,12 @@ use Rattle.gorvyts.proofs.MovedLists.{change-lent, change-back, change-
 use Rattle.gorvyts.proofs.changes.change.Statement.{statement}
 use Rattle.gorvyts.proofs.changes.change.Tie as tie
 
-blank-requires : tie.Need-blank-requires
-blank-requires c κs = search needs
-
-used-requires : tie.Need-used-requires
-used-requires c κs = search needs
-
-array-borrow-prefix-numbers : tie.Need-array-borrow-prefix-numbers
-array-borrow-prefix-numbers c = search needs
-
 slice-aggregate-changed : tie.Need-slice-aggregate-changed
 slice-aggregate-changed c =
     let u = c .before in
     let b = u .before in
     let s = b .before .before .before .before in
     sym (change-lent (s .args .list .now) (b .blank .result) (u .used .result) (b .blank .ensures) (u .used .ensures))
-
-changed-requires : tie.Need-changed-requires
-changed-requires c κs = search needs
-
-put3-requires : tie.Need-put3-requires
-put3-requires c κs = search needs
-
-same-length : tie.Need-same-length
-same-length c = search needs
 
 returns : tie.Need-returns
 returns c =
@@ -43,24 +25,6 @@ returns c =
     change-refused (s .args .list .now) (b .blank .result) (u .used .result) (b .blank .ensures) (u .used .ensures)
     (s .args .pool) (s .pre .0) (changeOf (s .args .call)) (ch .changed .result) _ (ch .changed .kept .1 .1 .0) (ch .changed .ensures)
     (s .args .next .now) (s .args .answer .now) _ (t .if1 .taken) (put .put3 .ensures)
-
-write-requires : tie.Need-write-requires
-write-requires c κs = search needs
-
-enum-known-size : tie.Need-enum-known-size
-enum-known-size c = search needs
-
-enum-told : tie.Need-enum-told
-enum-told c = search needs
-
-put3-requires-2 : tie.Need-put3-requires-2
-put3-requires-2 c κs = search needs
-
-same-length-2 : tie.Need-same-length-2
-same-length-2 c = search needs
-
-same-length-3 : tie.Need-same-length-3
-same-length-3 c = search needs
 
 returns-2 : tie.Need-returns-2
 returns-2 c =
@@ -128,15 +92,6 @@ put3-requires-3 c κs =
     let s = b .before .before .before .before in
     s .pre .1
 
-same-length-4 : tie.Need-same-length-4
-same-length-4 c = search needs
-
-same-length-5 : tie.Need-same-length-5
-same-length-5 c = search needs
-
-same-length-6 : tie.Need-same-length-6
-same-length-6 c = search needs
-
 returns-3 : tie.Need-returns-3
 returns-3 c =
     let put = c .before .before in
@@ -156,26 +111,26 @@ pub change-spec : {M : Type 1} → statement M
 change-spec =
     tie.close
     (tie.spec
-    blank-requires
-    used-requires
-    array-borrow-prefix-numbers
+    (λ c κs. search needs)
+    (λ c κs. search needs)
+    (λ c. search needs)
     slice-aggregate-changed
-    changed-requires
-    put3-requires
-    same-length
+    (λ c κs. search needs)
+    (λ c κs. search needs)
+    (λ c. search needs)
     returns
-    write-requires
-    enum-known-size
-    enum-told
-    put3-requires-2
-    same-length-2
-    same-length-3
+    (λ c κs. search needs)
+    (λ c. search needs)
+    (λ c. search needs)
+    (λ c κs. search needs)
+    (λ c. search needs)
+    (λ c. search needs)
     returns-2
     slice-aggregate-copy
     mul-copy
     copy-requires
     put3-requires-3
-    same-length-4
-    same-length-5
-    same-length-6
+    (λ c. search needs)
+    (λ c. search needs)
+    (λ c. search needs)
     returns-3)

@@ -11,15 +11,6 @@ returns c =
     let s = c .before .before .before .before .before in
     changed-short (s .args .image .now) (changeOf (s .args .call)) (s .args .next .now) (s .args .list .now) (s .args .answer .now) (c .if1 .taken)
 
-read-requires : tie.Need-read-requires
-read-requires c κs = search needs
-
-put3-requires : tie.Need-put3-requires
-put3-requires c κs = search needs
-
-same-length : tie.Need-same-length
-same-length c = search needs
-
 returns-2 : tie.Need-returns-2
 returns-2 c =
     let put = c .before .before in
@@ -36,15 +27,6 @@ change-requires c κs =
     let s = read .before .before .before .before .before .before in
     (on-image-valid (s .args .image .now) (read .read .result) (read .read .ensures) (e .if2 .left), read .before .if1 .left)
 
-same-length-2 : tie.Need-same-length-2
-same-length-2 c = search needs
-
-same-length-3 : tie.Need-same-length-3
-same-length-3 c = search needs
-
-same-length-4 : tie.Need-same-length-4
-same-length-4 c = search needs
-
 returns-3 : tie.Need-returns-3
 returns-3 c =
     let done = c .before .before .before .before .before .before in
@@ -59,12 +41,12 @@ change-image-spec =
     tie.close
     (tie.spec
     returns
-    read-requires
-    put3-requires
-    same-length
+    (λ c κs. search needs)
+    (λ c κs. search needs)
+    (λ c. search needs)
     returns-2
     change-requires
-    same-length-2
-    same-length-3
-    same-length-4
+    (λ c. search needs)
+    (λ c. search needs)
+    (λ c. search needs)
     returns-3)

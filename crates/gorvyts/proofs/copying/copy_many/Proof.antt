@@ -29,15 +29,6 @@ looped c =
 loop-holds : tie.Need-loop-holds Inv-loop μ-loop
 loop-holds c = many-none _ _ _ _ _
 
-mul-copies-in : tie.Need-mul-copies-in Inv-loop μ-loop
-mul-copies-in c = search needs
-
-shared-slice-read-copies-in : tie.Need-shared-slice-read-copies-in Inv-loop μ-loop
-shared-slice-read-copies-in c = search needs
-
-copies-in-requires : tie.Need-copies-in-requires Inv-loop μ-loop
-copies-in-requires c κs = search needs
-
 mul-place : tie.Need-mul-place Inv-loop μ-loop
 mul-place c = let l = looped c in omega (arith, l .0, l .1)
 
@@ -59,9 +50,6 @@ put-row-requires c κs =
     let l = turn .before .loop in
     let s = start (turn .before) in
     many-room (stateOf (s .args .pool)) (s .args .k) (s .args .blocks .now) (s .args .rows .now) (s .args .counters) (l .rows) (l .after) (l .i) (l .inv) (turn .loop-test .taken) (s .pre .1)
-
-add-i : tie.Need-add-i Inv-loop μ-loop
-add-i c = search needs
 
 loop-less : tie.Need-loop-less Inv-loop μ-loop
 loop-less c = omega (arith, c .before .before .before .before .before .before .before .before .before .loop-test .taken)
@@ -95,16 +83,16 @@ copy-many-spec =
     Inv-loop
     μ-loop
     loop-holds
-    mul-copies-in
-    shared-slice-read-copies-in
-    copies-in-requires
+    (λ c. search needs)
+    (λ c. search needs)
+    (λ c κs. search needs)
     mul-place
     mul-put-row
     sub-put-row
     part-put-row-start
     part-put-row-end
     put-row-requires
-    add-i
+    (λ c. search needs)
     loop-less
     loop-again
     same-length

@@ -14,15 +14,6 @@ returns-2 c =
     let s = c .before .before .before .before .before in
     one-row (s .args .image .now) (s .args .block) (s .args .k) (s .args .tally .now) (s .args .row .now) (c .if2 .taken)
 
-read-requires : tie.Need-read-requires
-read-requires c κs = search needs
-
-put-refusal-requires : tie.Need-put-refusal-requires
-put-refusal-requires c κs = search needs
-
-same-length : tie.Need-same-length
-same-length c = search needs
-
 returns-3 : tie.Need-returns-3
 returns-3 c =
     let put = c .before .before in
@@ -32,24 +23,6 @@ returns-3 c =
     let s = room .before .before .before .before .before in
     one-refused (s .args .image .now) (s .args .block) (s .args .k) (s .args .tally .now) (s .args .row .now) (r .read .result) (r .read .ensures)
     (room .before .if1 .left) (room .if2 .left) _ (t .if3 .taken) (put .put-refusal .ensures)
-
-counters-of-requires : tie.Need-counters-of-requires
-counters-of-requires c κs = search needs
-
-copies-of-requires : tie.Need-copies-of-requires
-copies-of-requires c κs = search needs
-
-put-row-requires : tie.Need-put-row-requires
-put-row-requires c κs = search needs
-
-put-counters-requires : tie.Need-put-counters-requires
-put-counters-requires c κs = search needs
-
-same-length-2 : tie.Need-same-length-2
-same-length-2 c = search needs
-
-same-length-3 : tie.Need-same-length-3
-same-length-3 c = search needs
 
 returns-4 : tie.Need-returns-4
 returns-4 c =
@@ -71,14 +44,14 @@ gorvyts-copies-spec =
     (tie.spec
     returns
     returns-2
-    read-requires
-    put-refusal-requires
-    same-length
+    (λ c κs. search needs)
+    (λ c κs. search needs)
+    (λ c. search needs)
     returns-3
-    counters-of-requires
-    copies-of-requires
-    put-row-requires
-    put-counters-requires
-    same-length-2
-    same-length-3
+    (λ c κs. search needs)
+    (λ c κs. search needs)
+    (λ c κs. search needs)
+    (λ c κs. search needs)
+    (λ c. search needs)
+    (λ c. search needs)
     returns-4)

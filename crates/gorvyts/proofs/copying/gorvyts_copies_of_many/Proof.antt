@@ -16,9 +16,6 @@ returns-2 c =
     let s = c .before .before .before .before .before .before in
     many-rows (s .args .image .now) (s .args .blocks .now) (s .args .k) (s .args .tally .now) (s .args .rows .now) (c .if2 .taken)
 
-read-requires : tie.Need-read-requires
-read-requires c κs = search needs
-
 returns-3 : tie.Need-returns-3
 returns-3 c =
     let r = c .before .before in
@@ -27,24 +24,12 @@ returns-3 c =
     many-refused (s .args .image .now) (s .args .blocks .now) (s .args .k) (s .args .tally .now) (s .args .rows .now) (r .read .result) (r .read .ensures)
     (room .before .if1 .left) (room .if2 .left) (c .if3 .taken)
 
-counters-of-requires : tie.Need-counters-of-requires
-counters-of-requires c κs = search needs
-
 copy-many-requires : tie.Need-copy-many-requires
 copy-many-requires c κs =
     let t = c .before .before .before .before in
     let r = t .before .before in
     let s = r .before .before .before .before .before .before .before in
     (on-image-valid (s .args .image .now) (r .read .result) (r .read .ensures) (t .if3 .left), omega (arith, r .before .if2 .left))
-
-put-counters-requires : tie.Need-put-counters-requires
-put-counters-requires c κs = search needs
-
-same-length : tie.Need-same-length
-same-length c = search needs
-
-same-length-2 : tie.Need-same-length-2
-same-length-2 c = search needs
 
 returns-4 : tie.Need-returns-4
 returns-4 c =
@@ -65,11 +50,11 @@ gorvyts-copies-of-many-spec =
     (tie.spec
     returns
     returns-2
-    read-requires
+    (λ c κs. search needs)
     returns-3
-    counters-of-requires
+    (λ c κs. search needs)
     copy-many-requires
-    put-counters-requires
-    same-length
-    same-length-2
+    (λ c κs. search needs)
+    (λ c. search needs)
+    (λ c. search needs)
     returns-4)

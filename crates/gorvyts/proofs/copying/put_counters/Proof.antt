@@ -4,17 +4,8 @@ use Rattle.gorvyts.proofs.CopiedRows.{put-two}
 use Rattle.gorvyts.proofs.copying.put_counters.Statement.{statement}
 use Rattle.gorvyts.proofs.copying.put_counters.Tie as tie
 
-slice-write-tally : tie.Need-slice-write-tally
-slice-write-tally c = search needs
-
-slice-write-tally-2 : tie.Need-slice-write-tally-2
-slice-write-tally-2 c = search needs
-
-same-length : tie.Need-same-length
-same-length c = search needs
-
 returns : tie.Need-returns
 returns c = put-two (c .args .tally .now) (c .args .counters .lookups) (c .args .counters .probes) (c .pre)
 
 pub put-counters-spec : {M : Type 1} → statement M
-put-counters-spec = tie.close (tie.spec slice-write-tally slice-write-tally-2 same-length returns)
+put-counters-spec = tie.close (tie.spec (λ c. search needs) (λ c. search needs) (λ c. search needs) returns)

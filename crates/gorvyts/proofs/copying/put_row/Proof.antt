@@ -6,17 +6,11 @@ use Rattle.gorvyts.proofs.CopiedRows.{put-row}
 use Rattle.gorvyts.proofs.copying.put_row.Statement.{statement}
 use Rattle.gorvyts.proofs.copying.put_row.Tie as tie
 
-slice-write-row : tie.Need-slice-write-row
-slice-write-row c = search needs
-
 put-owners-requires : tie.Need-put-owners-requires
 put-owners-requires c κs =
     let s = c .before .before .before .before in
     let l : length (s .args .answer .owners) ≡ 8 = search needs in
     (simp length-set (s .pre), l)
-
-slice-write-row-2 : tie.Need-slice-write-row-2
-slice-write-row-2 c = search needs
 
 same-length : tie.Need-same-length
 same-length c = simp length-set (c .before .before .put-owners .kept .0 ∙ simp length-set)
@@ -29,4 +23,4 @@ returns c =
     put-row (s .args .row .now) (s .args .answer .owners) (p .last .0) (s .args .answer .refusal) (s .args .answer .probes) l (s .pre) (p .ensures)
 
 pub put-row-spec : {M : Type 1} → statement M
-put-row-spec = tie.close (tie.spec slice-write-row put-owners-requires slice-write-row-2 same-length returns)
+put-row-spec = tie.close (tie.spec (λ c. search needs) put-owners-requires (λ c. search needs) same-length returns)

@@ -9,20 +9,11 @@ returns c =
     let s = c .before .before .before in
     unanswered 1 (s .args .image .now) (s .args .answer .now) _ (c .if1 .taken)
 
-fresh-requires : tie.Need-fresh-requires
-fresh-requires c κs = search needs
-
 store-made-requires : tie.Need-store-made-requires
 store-made-requires c κs =
     let f = c .before .before in
     let s = f .before .before .before .before in
     (fresh-valid-pool (s .args .range) (s .args .limit) (f .fresh .result) (f .fresh .ensures), f .before .if1 .left)
-
-same-length : tie.Need-same-length
-same-length c = search needs
-
-same-length-2 : tie.Need-same-length-2
-same-length-2 c = search needs
 
 returns-2 : tie.Need-returns-2
 returns-2 c =
@@ -35,4 +26,10 @@ returns-2 c =
 pub gorvyts-fresh-spec : {M : Type 1} → statement M
 gorvyts-fresh-spec =
     tie.close
-    (tie.spec returns fresh-requires store-made-requires same-length same-length-2 returns-2)
+    (tie.spec
+    returns
+    (λ c κs. search needs)
+    store-made-requires
+    (λ c. search needs)
+    (λ c. search needs)
+    returns-2)

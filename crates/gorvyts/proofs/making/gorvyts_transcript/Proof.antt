@@ -9,27 +9,6 @@ returns c =
     let s = c .before .before .before .before in
     unanswered 1 (s .args .out .now) (s .args .answer .now) _ (c .if1 .taken)
 
-transcript-requires : tie.Need-transcript-requires
-transcript-requires c κs = search needs
-
-enum-known-printed : tie.Need-enum-known-printed
-enum-known-printed c = search needs
-
-put1-requires : tie.Need-put1-requires
-put1-requires c κs = search needs
-
-enum-known-refusal : tie.Need-enum-known-refusal
-enum-known-refusal c = search needs
-
-put1-requires-2 : tie.Need-put1-requires-2
-put1-requires-2 c κs = search needs
-
-same-length : tie.Need-same-length
-same-length c = search needs
-
-same-length-2 : tie.Need-same-length-2
-same-length-2 c = search needs
-
 returns-2 : tie.Need-returns-2
 returns-2 c =
     let put = c .before .before in
@@ -39,12 +18,6 @@ returns-2 c =
     let s = t .before .before .before .before in
     transcript-whole (s .args .text .now) (s .args .out .now) _ (s .args .answer .now) _ _ _ (w .transcript .ensures) (t .if1 .left)
     (v .printed .given .1) (put .put1 .ensures)
-
-same-length-3 : tie.Need-same-length-3
-same-length-3 c = search needs
-
-same-length-4 : tie.Need-same-length-4
-same-length-4 c = search needs
 
 returns-3 : tie.Need-returns-3
 returns-3 c =
@@ -61,14 +34,14 @@ gorvyts-transcript-spec =
     tie.close
     (tie.spec
     returns
-    transcript-requires
-    enum-known-printed
-    put1-requires
-    enum-known-refusal
-    put1-requires-2
-    same-length
-    same-length-2
+    (λ c κs. search needs)
+    (λ c. search needs)
+    (λ c κs. search needs)
+    (λ c. search needs)
+    (λ c κs. search needs)
+    (λ c. search needs)
+    (λ c. search needs)
     returns-2
-    same-length-3
-    same-length-4
+    (λ c. search needs)
+    (λ c. search needs)
     returns-3)

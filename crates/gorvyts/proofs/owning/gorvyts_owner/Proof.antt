@@ -9,15 +9,6 @@ returns c =
     let s = c .before .before .before in
     owned-short (s .args .image .now) (s .args .point) (s .args .answer .now) (c .if1 .taken)
 
-read-requires : tie.Need-read-requires
-read-requires c κs = search needs
-
-put1-requires : tie.Need-put1-requires
-put1-requires c κs = search needs
-
-same-length : tie.Need-same-length
-same-length c = search needs
-
 returns-2 : tie.Need-returns-2
 returns-2 c =
     let put = c .before .before in
@@ -26,24 +17,6 @@ returns-2 c =
     let s = r .before .before .before .before in
     owned-refused (s .args .image .now) (s .args .point) (s .args .answer .now) (r .read .result) (r .read .ensures) (r .before .if1 .left) _
     (t .if2 .taken) (put .put1 .ensures)
-
-owner-of-requires : tie.Need-owner-of-requires
-owner-of-requires c κs = search needs
-
-enum-known-id : tie.Need-enum-known-id
-enum-known-id c = search needs
-
-put1-requires-2 : tie.Need-put1-requires-2
-put1-requires-2 c κs = search needs
-
-enum-known-refusal : tie.Need-enum-known-refusal
-enum-known-refusal c = search needs
-
-put1-requires-3 : tie.Need-put1-requires-3
-put1-requires-3 c κs = search needs
-
-same-length-2 : tie.Need-same-length-2
-same-length-2 c = search needs
 
 returns-3 : tie.Need-returns-3
 returns-3 c =
@@ -55,9 +28,6 @@ returns-3 c =
     let s = r .before .before .before .before in
     owned-owner (s .args .image .now) (s .args .point) (s .args .answer .now) (r .read .result) (r .read .ensures) (r .before .if1 .left)
     (o .owner-of .result) _ _ (t .if2 .left) (o .owner-of .ensures) (v .id .given .1) (put .put12 .ensures)
-
-same-length-3 : tie.Need-same-length-3
-same-length-3 c = search needs
 
 returns-4 : tie.Need-returns-4
 returns-4 c =
@@ -75,16 +45,16 @@ gorvyts-owner-spec =
     tie.close
     (tie.spec
     returns
-    read-requires
-    put1-requires
-    same-length
+    (λ c κs. search needs)
+    (λ c κs. search needs)
+    (λ c. search needs)
     returns-2
-    owner-of-requires
-    enum-known-id
-    put1-requires-2
-    enum-known-refusal
-    put1-requires-3
-    same-length-2
+    (λ c κs. search needs)
+    (λ c. search needs)
+    (λ c κs. search needs)
+    (λ c. search needs)
+    (λ c κs. search needs)
+    (λ c. search needs)
     returns-3
-    same-length-3
+    (λ c. search needs)
     returns-4)

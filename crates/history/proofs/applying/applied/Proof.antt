@@ -4,36 +4,6 @@ use Rattle.history.proofs.AppliedLines.{said-as}
 use Rattle.history.proofs.applying.applied.Statement.{statement}
 use Rattle.history.proofs.applying.applied.Tie as tie
 
-enum-known-said : tie.Need-enum-known-said
-enum-known-said c = search needs
-
-ranged-requires : tie.Need-ranged-requires
-ranged-requires c κs = search needs
-
-enum-known-said-2 : tie.Need-enum-known-said-2
-enum-known-said-2 c = search needs
-
-changed-requires : tie.Need-changed-requires
-changed-requires c κs = search needs
-
-enum-known-said-3 : tie.Need-enum-known-said-3
-enum-known-said-3 c = search needs
-
-changed-requires-2 : tie.Need-changed-requires-2
-changed-requires-2 c κs = search needs
-
-enum-known-said-4 : tie.Need-enum-known-said-4
-enum-known-said-4 c = search needs
-
-changed-requires-3 : tie.Need-changed-requires-3
-changed-requires-3 c κs = search needs
-
-enum-known-said-5 : tie.Need-enum-known-said-5
-enum-known-said-5 c = search needs
-
-refused-requires : tie.Need-refused-requires
-refused-requires c κs = search needs
-
 returns : tie.Need-returns
 returns c =
     let v = c .before .before in
@@ -68,16 +38,16 @@ pub applied-spec : {M : Type 1} → statement M
 applied-spec =
     tie.close
     (tie.spec
-    enum-known-said
-    ranged-requires
-    enum-known-said-2
-    changed-requires
-    enum-known-said-3
-    changed-requires-2
-    enum-known-said-4
-    changed-requires-3
-    enum-known-said-5
-    refused-requires
+    (λ c. search needs)
+    (λ c κs. search needs)
+    (λ c. search needs)
+    (λ c κs. search needs)
+    (λ c. search needs)
+    (λ c κs. search needs)
+    (λ c. search needs)
+    (λ c κs. search needs)
+    (λ c. search needs)
+    (λ c κs. search needs)
     returns
     returns-2
     returns-3

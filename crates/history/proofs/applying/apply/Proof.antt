@@ -5,12 +5,6 @@ use Rattle.history.proofs.AppliedLines.{said-as, said-applied}
 use Rattle.history.proofs.applying.apply.Statement.{statement}
 use Rattle.history.proofs.applying.apply.Tie as tie
 
-line-requires : tie.Need-line-requires
-line-requires c κs = search needs
-
-applied-requires : tie.Need-applied-requires
-applied-requires c κs = search needs
-
 returns : tie.Need-returns
 returns c =
     let l = c .before in
@@ -18,4 +12,4 @@ returns c =
     said-applied (a .history) (c .applied .result) (a .text .now) (said-as (a .history) (c .applied .result) (sym (l .line .ensures)) (c .applied .ensures))
 
 pub apply-spec : {M : Type 1} → statement M
-apply-spec = tie.close (tie.spec line-requires applied-requires returns)
+apply-spec = tie.close (tie.spec (λ c κs. search needs) (λ c κs. search needs) returns)

@@ -4,14 +4,8 @@ use Rattle.history.proofs.AppliedLines.{ranged-after, ranged-first}
 use Rattle.history.proofs.applying.ranged.Statement.{statement}
 use Rattle.history.proofs.applying.ranged.Tie as tie
 
-refused-requires : tie.Need-refused-requires
-refused-requires c κs = search needs
-
 returns : tie.Need-returns
 returns c = λ f. ranged-after _ _ _ _ (c .refused .ensures) (c .before .if1 .taken)
-
-fresh-requires : tie.Need-fresh-requires
-fresh-requires c κs = search needs
 
 returns-2 : tie.Need-returns-2
 returns-2 c = λ f.
@@ -19,4 +13,4 @@ returns-2 c = λ f.
     ranged-first (start .args .history) (start .args .range) (start .args .limit) (c .before .fresh .result) f (c .before .fresh .ensures) (c .before .before .if1 .left)
 
 pub ranged-spec : {M : Type 1} → statement M
-ranged-spec = tie.close (tie.spec refused-requires returns fresh-requires returns-2)
+ranged-spec = tie.close (tie.spec (λ c κs. search needs) returns (λ c κs. search needs) returns-2)

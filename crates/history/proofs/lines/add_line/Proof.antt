@@ -29,31 +29,10 @@ value-is u =
     capacity-known (u .answer .given .0 .0) (second (named u .before .before))
     (sym (u .answer .given .1) ∙ u .before .before .capacity .ensures)
 
-number-requires : tie.Need-number-requires
-number-requires c κs = search needs
-
-enum-known-id : tie.Need-enum-known-id
-enum-known-id c = search needs
-
-enum-told : tie.Need-enum-told
-enum-told c = search needs
-
 returns : tie.Need-returns
 returns c =
     let n = c .before .before in
     pair-first Add farDevice (first n) (second n) (sym (n .number .ensures .0) ∙ c .enum-told .given .1)
-
-capacity-requires : tie.Need-capacity-requires
-capacity-requires c κs = search needs
-
-enum-known-answer : tie.Need-enum-known-answer
-enum-known-answer c = search needs
-
-enum-told-2 : tie.Need-enum-told-2
-enum-told-2 c = search needs
-
-refusal-of-requires : tie.Need-refusal-of-requires
-refusal-of-requires c κs = search needs
 
 returns-2 : tie.Need-returns-2
 returns-2 c =
@@ -62,9 +41,6 @@ returns-2 c =
     let v = m .before .before in
     pair-refused Add _ (second (v .before .before)) _ (id-is v) (m .capacity .result) (m .capacity .ensures) (t .enum-told2 .given .0 .0)
     (t .enum-told2 .given .1) (c .refusal-of .result) (c .refusal-of .ensures)
-
-outside-requires : tie.Need-outside-requires
-outside-requires c κs = search needs
 
 returns-3 : tie.Need-returns-3
 returns-3 c =
@@ -85,15 +61,15 @@ pub add-line-spec : {M : Type 1} → statement M
 add-line-spec =
     tie.close
     (tie.spec
-    number-requires
-    enum-known-id
-    enum-told
+    (λ c κs. search needs)
+    (λ c. search needs)
+    (λ c. search needs)
     returns
-    capacity-requires
-    enum-known-answer
-    enum-told-2
-    refusal-of-requires
+    (λ c κs. search needs)
+    (λ c. search needs)
+    (λ c. search needs)
+    (λ c κs. search needs)
     returns-2
-    outside-requires
+    (λ c κs. search needs)
     returns-3
     returns-4)

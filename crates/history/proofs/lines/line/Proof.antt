@@ -22,40 +22,13 @@ first e = cut-made space (text (e .before)) (e .before .find .result) (e .before
 second : (w : tie.Else2) → let ys = rest (w .before .before .before .before) in Cut space ys (w .before .find2 .result) (behind ys (w .before .find2 .result))
 second w = cut-made space (rest (w .before .before .before .before)) (w .before .find2 .result) (w .before .find2 .ensures) (w .if2 .left)
 
-find-requires : tie.Need-find-requires
-find-requires c κs = search needs
-
 returns : tie.Need-returns
 returns c = line-one (text (c .before)) (c .before .find .result) (c .before .find .ensures) (c .if1 .taken)
-
-add-next : tie.Need-add-next
-add-next c = search needs
-
-sub-rest : tie.Need-sub-rest
-sub-rest c = search needs
-
-part-rest-start : tie.Need-part-rest-start
-part-rest-start c = search needs
-
-part-rest-end : tie.Need-part-rest-end
-part-rest-end c = search needs
-
-find-requires-2 : tie.Need-find-requires-2
-find-requires-2 c κs = search needs
 
 slice-aggregate-same : tie.Need-slice-aggregate-same
 slice-aggregate-same c =
     let f = c .before .before .before .before .before in
     part-front (f .find .result) (text f) (f .find .ensures .1)
-
-slice-aggregate-same-2 : tie.Need-slice-aggregate-same-2
-slice-aggregate-same-2 c = search needs
-
-same-requires : tie.Need-same-requires
-same-requires c κs = search needs
-
-remove-line-requires : tie.Need-remove-line-requires
-remove-line-requires c κs = search needs
 
 returns-2 : tie.Need-returns-2
 returns-2 c =
@@ -71,21 +44,6 @@ returns-3 c =
     let w = s .before .before .before in
     let g = w .before in
     line-two (first (g .before .before)) (g .find2 .result) (g .find2 .ensures) (w .if2 .taken) (sym (s .same .ensures) ∙ c .if3 .left)
-
-add-last : tie.Need-add-last
-add-last c = search needs
-
-sub-tail : tie.Need-sub-tail
-sub-tail c = search needs
-
-part-tail-start : tie.Need-part-tail-start
-part-tail-start c = search needs
-
-part-tail-end : tie.Need-part-tail-end
-part-tail-end c = search needs
-
-find-requires-3 : tie.Need-find-requires-3
-find-requires-3 c κs = search needs
 
 returns-4 : tie.Need-returns-4
 returns-4 c =
@@ -103,9 +61,6 @@ slice-aggregate-three-words-2 c =
     let g = c .before .before .before .before .before .before in
     part-front (g .find2 .result) (rest (g .before .before .before)) (g .find2 .ensures .1)
 
-three-words-requires : tie.Need-three-words-requires
-three-words-requires c κs = search needs
-
 returns-5 : tie.Need-returns-5
 returns-5 c =
     let k = c .before .before .before in
@@ -117,26 +72,26 @@ pub line-spec : {M : Type 1} → statement M
 line-spec =
     tie.close
     (tie.spec
-    find-requires
+    (λ c κs. search needs)
     returns
-    add-next
-    sub-rest
-    part-rest-start
-    part-rest-end
-    find-requires-2
+    (λ c. search needs)
+    (λ c. search needs)
+    (λ c. search needs)
+    (λ c. search needs)
+    (λ c κs. search needs)
     slice-aggregate-same
-    slice-aggregate-same-2
-    same-requires
-    remove-line-requires
+    (λ c. search needs)
+    (λ c κs. search needs)
+    (λ c κs. search needs)
     returns-2
     returns-3
-    add-last
-    sub-tail
-    part-tail-start
-    part-tail-end
-    find-requires-3
+    (λ c. search needs)
+    (λ c. search needs)
+    (λ c. search needs)
+    (λ c. search needs)
+    (λ c κs. search needs)
     returns-4
     slice-aggregate-three-words
     slice-aggregate-three-words-2
-    three-words-requires
+    (λ c κs. search needs)
     returns-5)

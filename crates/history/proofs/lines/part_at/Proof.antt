@@ -5,29 +5,8 @@ use Rattle.history.proofs.TextParts.{part-ended, part-unended}
 use Rattle.history.proofs.lines.part_at.Statement.{statement}
 use Rattle.history.proofs.lines.part_at.Tie as tie
 
-sub-rest : tie.Need-sub-rest
-sub-rest c = search needs
-
-part-rest-start : tie.Need-part-rest-start
-part-rest-start c = search needs
-
-part-rest-end : tie.Need-part-rest-end
-part-rest-end c = search needs
-
-find-requires : tie.Need-find-requires
-find-requires c κs = search needs
-
 slice-aggregate-line : tie.Need-slice-aggregate-line
 slice-aggregate-line c = part-front (c .before .before .find .result) _ (c .before .before .find .ensures .1)
-
-line-requires : tie.Need-line-requires
-line-requires c κs = search needs
-
-add-t12 : tie.Need-add-t12
-add-t12 c = search needs
-
-add-t13 : tie.Need-add-t13
-add-t13 c = search needs
 
 returns : tie.Need-returns
 returns c =
@@ -46,13 +25,13 @@ pub part-at-spec : {M : Type 1} → statement M
 part-at-spec =
     tie.close
     (tie.spec
-    sub-rest
-    part-rest-start
-    part-rest-end
-    find-requires
+    (λ c. search needs)
+    (λ c. search needs)
+    (λ c. search needs)
+    (λ c κs. search needs)
     slice-aggregate-line
-    line-requires
-    add-t12
-    add-t13
+    (λ c κs. search needs)
+    (λ c. search needs)
+    (λ c. search needs)
     returns
     returns-2)

@@ -26,28 +26,10 @@ range-is v = sym (v .before .before .number .ensures .0) ∙ v .range .given .1
 limit-is : (u : tie.After-limit) → second (ranged u .before .before) ≡ Number (u .limit .given .0 .0)
 limit-is u = sym (u .before .before .number2 .ensures .0) ∙ u .limit .given .1
 
-number-requires : tie.Need-number-requires
-number-requires c κs = search needs
-
-enum-known-range : tie.Need-enum-known-range
-enum-known-range c = search needs
-
-enum-told : tie.Need-enum-told
-enum-told c = search needs
-
 returns : tie.Need-returns
 returns c =
     let n = c .before .before in
     pair-first Range farRange (first n) (second n) (sym (n .number .ensures .0) ∙ c .enum-told .given .1)
-
-number-requires-2 : tie.Need-number-requires-2
-number-requires-2 c κs = search needs
-
-enum-known-limit : tie.Need-enum-known-limit
-enum-known-limit c = search needs
-
-enum-told-2 : tie.Need-enum-told-2
-enum-told-2 c = search needs
 
 returns-2 : tie.Need-returns-2
 returns-2 c =
@@ -55,18 +37,12 @@ returns-2 c =
     let v = m .before .before in
     pair-second Range farRange _ (second (v .before .before)) _ (range-is v) (sym (m .number2 .ensures .0) ∙ c .enum-told2 .given .1)
 
-outside-requires : tie.Need-outside-requires
-outside-requires c κs = search needs
-
 returns-3 : tie.Need-returns-3
 returns-3 c =
     let o = c .before in
     let u = o .before .before in
     pair-far Range farRange _ _ _ (range-is (ranged u)) _ (limit-is u)
     (far-first (outside maxRange (ranged u .range .given .0 .0)) (outside maxLimit (u .limit .given .0 .0)) (sym (o .outside .ensures) ∙ c .if1 .taken))
-
-outside-requires-2 : tie.Need-outside-requires-2
-outside-requires-2 c κs = search needs
 
 returns-4 : tie.Need-returns-4
 returns-4 c =
@@ -88,16 +64,16 @@ pub range-line-spec : {M : Type 1} → statement M
 range-line-spec =
     tie.close
     (tie.spec
-    number-requires
-    enum-known-range
-    enum-told
+    (λ c κs. search needs)
+    (λ c. search needs)
+    (λ c. search needs)
     returns
-    number-requires-2
-    enum-known-limit
-    enum-told-2
+    (λ c κs. search needs)
+    (λ c. search needs)
+    (λ c. search needs)
     returns-2
-    outside-requires
+    (λ c κs. search needs)
     returns-3
-    outside-requires-2
+    (λ c κs. search needs)
     returns-4
     returns-5)

@@ -6,22 +6,10 @@ use borrow.Author.Needs.{needs}
 use Rattle.history.proofs.lines.remove_line.Statement.{statement}
 use Rattle.history.proofs.lines.remove_line.Tie as tie
 
-number-requires : tie.Need-number-requires
-number-requires c κs = search needs
-
-enum-known-id : tie.Need-enum-known-id
-enum-known-id c = search needs
-
-enum-told : tie.Need-enum-told
-enum-told c = search needs
-
 returns : tie.Need-returns
 returns c =
     let n = c .before .before in
     remove-none (numberIn (n .before .before .args .word .now)) (sym (n .number .ensures .0) ∙ c .enum-told .given .1)
-
-outside-requires : tie.Need-outside-requires
-outside-requires c κs = search needs
 
 returns-2 : tie.Need-returns-2
 returns-2 c =
@@ -42,4 +30,11 @@ returns-3 c =
 pub remove-line-spec : {M : Type 1} → statement M
 remove-line-spec =
     tie.close
-    (tie.spec number-requires enum-known-id enum-told returns outside-requires returns-2 returns-3)
+    (tie.spec
+    (λ c κs. search needs)
+    (λ c. search needs)
+    (λ c. search needs)
+    returns
+    (λ c κs. search needs)
+    returns-2
+    returns-3)

@@ -6,15 +6,6 @@ use borrow.Author.Needs.{needs}
 use Rattle.history.proofs.lines.resize_line.Statement.{statement}
 use Rattle.history.proofs.lines.resize_line.Tie as tie
 
-add-line-requires : tie.Need-add-line-requires
-add-line-requires c κs = search needs
-
-enum-known-id : tie.Need-enum-known-id
-enum-known-id c = search needs
-
-enum-known-refusal : tie.Need-enum-known-refusal
-enum-known-refusal c = search needs
-
 returns : tie.Need-returns
 returns c =
     let v = c .before in
@@ -38,4 +29,4 @@ returns-3 c =
 pub resize-line-spec : {M : Type 1} → statement M
 resize-line-spec =
     tie.close
-    (tie.spec add-line-requires enum-known-id enum-known-refusal returns returns-2 returns-3)
+    (tie.spec (λ c κs. search needs) (λ c. search needs) (λ c. search needs) returns returns-2 returns-3)

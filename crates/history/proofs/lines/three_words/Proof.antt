@@ -5,29 +5,11 @@ use Rattle.history.proofs.LineShapes.{three-range, three-add, three-res
 use Rattle.history.proofs.lines.three_words.Statement.{statement}
 use Rattle.history.proofs.lines.three_words.Tie as tie
 
-slice-aggregate-same : tie.Need-slice-aggregate-same
-slice-aggregate-same c = search needs
-
-same-requires : tie.Need-same-requires
-same-requires c κs = search needs
-
-range-line-requires : tie.Need-range-line-requires
-range-line-requires c κs = search needs
-
 returns : tie.Need-returns
 returns c =
     let s = c .before .before in
     let a = s .before .before .before .before .before .args in
     c .range-line .ensures ∙ three-range (a .key .now) (a .first .now) (a .second .now) (sym (s .same .ensures) ∙ c .before .if1 .taken)
-
-slice-aggregate-same-2 : tie.Need-slice-aggregate-same-2
-slice-aggregate-same-2 c = search needs
-
-same-requires-2 : tie.Need-same-requires-2
-same-requires-2 c κs = search needs
-
-add-line-requires : tie.Need-add-line-requires
-add-line-requires c κs = search needs
 
 returns-2 : tie.Need-returns-2
 returns-2 c =
@@ -37,15 +19,6 @@ returns-2 c =
     let a = s .before .before .before .before .before .args in
     c .add-line .ensures
     ∙ three-add (a .key .now) (a .first .now) (a .second .now) (sym (s .same .ensures) ∙ e .if1 .left) (sym (t .same2 .ensures) ∙ c .before .if2 .taken)
-
-slice-aggregate-same-3 : tie.Need-slice-aggregate-same-3
-slice-aggregate-same-3 c = search needs
-
-same-requires-3 : tie.Need-same-requires-3
-same-requires-3 c κs = search needs
-
-resize-line-requires : tie.Need-resize-line-requires
-resize-line-requires c κs = search needs
 
 returns-3 : tie.Need-returns-3
 returns-3 c =
@@ -74,16 +47,16 @@ pub three-words-spec : {M : Type 1} → statement M
 three-words-spec =
     tie.close
     (tie.spec
-    slice-aggregate-same
-    same-requires
-    range-line-requires
+    (λ c. search needs)
+    (λ c κs. search needs)
+    (λ c κs. search needs)
     returns
-    slice-aggregate-same-2
-    same-requires-2
-    add-line-requires
+    (λ c. search needs)
+    (λ c κs. search needs)
+    (λ c κs. search needs)
     returns-2
-    slice-aggregate-same-3
-    same-requires-3
-    resize-line-requires
+    (λ c. search needs)
+    (λ c κs. search needs)
+    (λ c κs. search needs)
     returns-3
     returns-4)

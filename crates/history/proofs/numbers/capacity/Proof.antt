@@ -9,15 +9,6 @@ use Rattle.history.proofs.NumberWords.{answer-low, answer-high, answer-
 use Rattle.history.proofs.numbers.capacity.Statement.{statement}
 use Rattle.history.proofs.numbers.capacity.Tie as tie
 
-thousandths-requires : tie.Need-thousandths-requires
-thousandths-requires c κs = search needs
-
-enum-known-value : tie.Need-enum-known-value
-enum-known-value c = search needs
-
-enum-told : tie.Need-enum-told
-enum-told c = search needs
-
 told : (v : tie.After-value)
     → capacityAnswer (Number (v .value .given .0 .0)) ≡ capacityAnswer (capacityIn (v .before .before .before .before .args .word .now))
 told v = ap capacityAnswer (sym (v .value .given .1) ∙ v .before .before .thousandths .ensures)
@@ -38,9 +29,9 @@ pub capacity-spec : {M : Type 1} → statement M
 capacity-spec =
     tie.close
     (tie.spec
-    thousandths-requires
-    enum-known-value
-    enum-told
+    (λ c κs. search needs)
+    (λ c. search needs)
+    (λ c. search needs)
     returns
     returns-2
     returns-3

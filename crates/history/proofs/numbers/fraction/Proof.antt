@@ -22,15 +22,6 @@ returns c = fraction-short (c .before .before .args .word .now) (omega (arith, c
 returns-2 : tie.Need-returns-2
 returns-2 c = fraction-long (c .before .before .before .args .word .now) (omega (arith, c .before .if1 .left)) (c .if2 .taken)
 
-digits-requires : tie.Need-digits-requires
-digits-requires c κs = search needs
-
-enum-known-value : tie.Need-enum-known-value
-enum-known-value c = search needs
-
-enum-told : tie.Need-enum-told
-enum-told c = search needs
-
 returns-3 : tie.Need-returns-3
 returns-3 c =
     let d = c .before .before in
@@ -58,9 +49,9 @@ fraction-spec =
     (tie.spec
     returns
     returns-2
-    digits-requires
-    enum-known-value
-    enum-told
+    (λ c κs. search needs)
+    (λ c. search needs)
+    (λ c. search needs)
     returns-3
     mul-t6
     returns-4

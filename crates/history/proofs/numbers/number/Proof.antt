@@ -15,16 +15,10 @@ returns c = number-short (c .before .before .args .word .now) (c .if1 .taken)
 returns-2 : tie.Need-returns-2
 returns-2 c = number-long (c .before .before .before .args .word .now) (omega (arith, c .if2 .taken))
 
-shared-slice-read-if4 : tie.Need-shared-slice-read-if4
-shared-slice-read-if4 c = search needs
-
 returns-3 : tie.Need-returns-3
 returns-3 c =
     let s = c .before .before .before in
     number-led (s .before .before .before .args .word .now) (c .before .before .if3 .taken) (omega (arith, c .if4 .taken))
-
-digits-requires : tie.Need-digits-requires
-digits-requires c κs = search needs
 
 returns-4 : tie.Need-returns-4
 returns-4 c =
@@ -37,4 +31,4 @@ returns-4 c =
 pub number-spec : {M : Type 1} → statement M
 number-spec =
     tie.close
-    (tie.spec returns returns-2 shared-slice-read-if4 returns-3 digits-requires returns-4)
+    (tie.spec returns returns-2 (λ c. search needs) returns-3 (λ c κs. search needs) returns-4)

@@ -29,20 +29,8 @@ cut s =
     let f = found (s .before .before) in
     cut-made point (word f) (f .find .result) (f .find .ensures) (λ e. omega (arith, e, s .if1 .left))
 
-find-requires : tie.Need-find-requires
-find-requires c κs = search needs
-
 slice-aggregate-number : tie.Need-slice-aggregate-number
 slice-aggregate-number c = part-front (c .before .find .result) (word (c .before)) (c .before .find .ensures .1)
-
-number-requires : tie.Need-number-requires
-number-requires c κs = search needs
-
-enum-known-whole : tie.Need-enum-known-whole
-enum-known-whole c = search needs
-
-enum-told : tie.Need-enum-told
-enum-told c = search needs
 
 returns : tie.Need-returns
 returns c =
@@ -58,27 +46,6 @@ returns-2 c =
     let v = c .before .before in
     let f = found v in
     capacity-whole (word f) (f .find .result) (f .find .ensures) (v .whole .given .0 .0) (whole v) (c .if1 .taken)
-
-add-start : tie.Need-add-start
-add-start c = search needs
-
-sub-fraction : tie.Need-sub-fraction
-sub-fraction c = search needs
-
-part-fraction-start : tie.Need-part-fraction-start
-part-fraction-start c = search needs
-
-part-fraction-end : tie.Need-part-fraction-end
-part-fraction-end c = search needs
-
-fraction-requires : tie.Need-fraction-requires
-fraction-requires c κs = search needs
-
-enum-known-rest : tie.Need-enum-known-rest
-enum-known-rest c = search needs
-
-enum-told-2 : tie.Need-enum-told-2
-enum-told-2 c = search needs
 
 returns-3 : tie.Need-returns-3
 returns-3 c =
@@ -108,21 +75,21 @@ pub thousandths-spec : {M : Type 1} → statement M
 thousandths-spec =
     tie.close
     (tie.spec
-    find-requires
+    (λ c κs. search needs)
     slice-aggregate-number
-    number-requires
-    enum-known-whole
-    enum-told
+    (λ c κs. search needs)
+    (λ c. search needs)
+    (λ c. search needs)
     returns
     mul-t11
     returns-2
-    add-start
-    sub-fraction
-    part-fraction-start
-    part-fraction-end
-    fraction-requires
-    enum-known-rest
-    enum-told-2
+    (λ c. search needs)
+    (λ c. search needs)
+    (λ c. search needs)
+    (λ c. search needs)
+    (λ c κs. search needs)
+    (λ c. search needs)
+    (λ c. search needs)
     returns-3
     mul-t16
     add-t17

@@ -30,9 +30,6 @@ loop-holds c = leaving-none (c .before .before .before .args .text .now) (c .bef
 part-at-requires : tie.Need-part-at-requires Inv-loop μ-loop
 part-at-requires c κs = omega (arith, c .loop-test .taken)
 
-enum-told : tie.Need-enum-told Inv-loop μ-loop
-enum-told c = search needs
-
 loop-less : tie.Need-loop-less Inv-loop μ-loop
 loop-less c =
     let p = c .before .before in
@@ -72,7 +69,7 @@ pool-after-spec =
     returns
     loop-holds
     part-at-requires
-    enum-told
+    (λ c. search needs)
     loop-less
     loop-again
     applied-requires

@@ -8,21 +8,6 @@ use Rattle.slicing_core.specs.Rows.{at}
 use Rattle.history.proofs.printing.end_of.Statement.{statement}
 use Rattle.history.proofs.printing.end_of.Tie as tie
 
-add-if1 : tie.Need-add-if1
-add-if1 c = search needs
-
-add-wide32 : tie.Need-add-wide32
-add-wide32 c = search needs
-
-mul-wide32 : tie.Need-mul-wide32
-mul-wide32 c = search needs
-
-element-copy-out-wide32 : tie.Need-element-copy-out-wide32
-element-copy-out-wide32 c = search needs
-
-wide32-requires : tie.Need-wide32-requires
-wide32-requires c κs = search needs
-
 returns : tie.Need-returns
 returns c =
     let a = c .before .before .before .args in
@@ -39,10 +24,10 @@ pub end-of-spec : {M : Type 1} → statement M
 end-of-spec =
     tie.close
     (tie.spec
-    add-if1
-    add-wide32
-    mul-wide32
-    element-copy-out-wide32
-    wide32-requires
+    (λ c. search needs)
+    (λ c. search needs)
+    (λ c. search needs)
+    (λ c. search needs)
+    (λ c κs. search needs)
     returns
     returns-2)

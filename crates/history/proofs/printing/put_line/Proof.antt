@@ -33,9 +33,6 @@ put-field-requires-4 c κs =
     let a = first .before .before .before .args in
     omega (arith, length-four (a .a) (a .b) (a .c) (a .d), first .put-field .ensures .0, length-end (a .a) space, second .put-field2 .ensures .0, length-end (a .b) space, third .put-field3 .ensures .0, length-end (a .c) space)
 
-same-length : tie.Need-same-length
-same-length c = search needs
-
 returns : tie.Need-returns
 returns c =
     let fourth = c .before .before in
@@ -67,5 +64,5 @@ put-line-spec =
     put-field-requires-2
     put-field-requires-3
     put-field-requires-4
-    same-length
+    (λ c. search needs)
     returns)

@@ -25,9 +25,6 @@ put-field-requires-3 c κs =
     let a = first .before .before .before .args in
     omega (arith, length-three (a .a) (a .b) (a .c), first .put-field .ensures .0, length-end (a .a) space, second .put-field2 .ensures .0, length-end (a .b) space)
 
-same-length : tie.Need-same-length
-same-length c = search needs
-
 returns : tie.Need-returns
 returns c =
     let third = c .before .before in
@@ -49,9 +46,4 @@ returns c =
 pub put-row-spec : {M : Type 1} → statement M
 put-row-spec =
     tie.close
-    (tie.spec
-    put-field-requires
-    put-field-requires-2
-    put-field-requires-3
-    same-length
-    returns)
+    (tie.spec put-field-requires put-field-requires-2 put-field-requires-3 (λ c. search needs) returns)

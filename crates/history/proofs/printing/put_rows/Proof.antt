@@ -16,18 +16,6 @@ loop-holds c =
     let a = c .before .args in
     printed-none (a .starts .now) (a .owners .now) (a .range) (a .q) (a .place) (a .out .now)
 
-mul-wide32 : tie.Need-mul-wide32 Inv-loop μ-loop
-mul-wide32 c = omega arith
-
-element-copy-out-wide32 : tie.Need-element-copy-out-wide32 Inv-loop μ-loop
-element-copy-out-wide32 c = omega arith
-
-wide32-requires : tie.Need-wide32-requires Inv-loop μ-loop
-wide32-requires c κs = omega arith
-
-end-of-requires : tie.Need-end-of-requires Inv-loop μ-loop
-end-of-requires c κs = omega arith
-
 sub-put-row : tie.Need-sub-put-row Inv-loop μ-loop
 sub-put-row c =
     let l = c .before .before .before .before .before in
@@ -40,15 +28,6 @@ sub-put-row c =
       c .before .end-of .ensures,
     )
 
-mul-wide16 : tie.Need-mul-wide16 Inv-loop μ-loop
-mul-wide16 c = omega arith
-
-element-copy-out-wide16 : tie.Need-element-copy-out-wide16 Inv-loop μ-loop
-element-copy-out-wide16 c = omega arith
-
-wide16-requires : tie.Need-wide16-requires Inv-loop μ-loop
-wide16-requires c κs = omega arith
-
 put-row-requires : tie.Need-put-row-requires Inv-loop μ-loop
 put-row-requires c κs =
     let e = c .before .before .before in
@@ -60,12 +39,6 @@ put-row-requires c κs =
     printed-room (a .starts .now) (a .owners .now) (a .range) (a .q) (a .place) (a .out .now) (l .loop .out) (l .loop .last) (l .loop .i)
     (w .wide32 .result) (e .end-of .result) (c .wide16 .result) (s .pre .0 .2) (s .pre .0 .1) (t .loop-test .taken) (s .pre .1)
     (w .wide32 .ensures .0) (e .end-of .ensures) (c .wide16 .ensures .0) (c .wide16 .ensures .1) (l .loop .inv)
-
-add-i : tie.Need-add-i Inv-loop μ-loop
-add-i c = omega arith
-
-loop-less : tie.Need-loop-less Inv-loop μ-loop
-loop-less c = omega arith
 
 loop-again : tie.Need-loop-again Inv-loop μ-loop
 loop-again c =
@@ -98,17 +71,17 @@ put-rows-spec =
     Inv-loop
     μ-loop
     loop-holds
-    mul-wide32
-    element-copy-out-wide32
-    wide32-requires
-    end-of-requires
+    (λ c. omega arith)
+    (λ c. omega arith)
+    (λ c κs. omega arith)
+    (λ c κs. omega arith)
     sub-put-row
-    mul-wide16
-    element-copy-out-wide16
-    wide16-requires
+    (λ c. omega arith)
+    (λ c. omega arith)
+    (λ c κs. omega arith)
     put-row-requires
-    add-i
-    loop-less
+    (λ c. omega arith)
+    (λ c. omega arith)
     loop-again
     same-length
     returns)

@@ -6,12 +6,6 @@ use Rattle.history.proofs.PrintedTables.{table-place, table-put}
 use Rattle.history.proofs.transcripts.put_table.Statement.{statement}
 use Rattle.history.proofs.transcripts.put_table.Tie as tie
 
-slice-aggregate-put-text : tie.Need-slice-aggregate-put-text
-slice-aggregate-put-text c = search needs
-
-put-text-requires : tie.Need-put-text-requires
-put-text-requires c κs = search needs
-
 put-rows-requires : tie.Need-put-rows-requires
 put-rows-requires c κs =
     let s = c .before .before .before .before .before .before .before .before .before .before .before in
@@ -19,9 +13,6 @@ put-rows-requires c κs =
       (omega (arith, l .fits, l .roomMost), l .most, valid-coalesced (s .args .pool) (s .pre .0)),
       omega (arith, s .pre .1, c .before .before .before .before .before .put-text .ensures .0),
     )
-
-same-length : tie.Need-same-length
-same-length c = search needs
 
 returns : tie.Need-returns
 returns c =
@@ -36,4 +27,4 @@ returns c =
     )
 
 pub put-table-spec : {M : Type 1} → statement M
-put-table-spec = tie.close (tie.spec slice-aggregate-put-text put-text-requires put-rows-requires same-length returns)
+put-table-spec = tie.close (tie.spec (λ c. search needs) (λ c κs. search needs) put-rows-requires (λ c. search needs) returns)

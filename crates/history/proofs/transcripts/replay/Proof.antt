@@ -29,9 +29,6 @@ loop-holds c =
 part-at-requires : tie.Need-part-at-requires Inv-loop μ-loop
 part-at-requires c κs = omega (arith, c .loop-test .taken)
 
-enum-known-said : tie.Need-enum-known-said Inv-loop μ-loop
-enum-known-said c = search needs
-
 wide32-requires : tie.Need-wide32-requires Inv-loop μ-loop
 wide32-requires c κs = tt
 
@@ -111,7 +108,7 @@ replay-spec =
     new-requires
     loop-holds
     part-at-requires
-    enum-known-said
+    (λ c. search needs)
     wide32-requires
     put-line-requires
     applied-requires

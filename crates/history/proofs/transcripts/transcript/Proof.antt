@@ -9,15 +9,6 @@ returns c =
     let a = c .before .before .before .args in
     transcribed-short (a .text .now) (a .out .now) (c .if1 .taken)
 
-slice-aggregate-put-text : tie.Need-slice-aggregate-put-text
-slice-aggregate-put-text c = search needs
-
-put-text-requires : tie.Need-put-text-requires
-put-text-requires c κs = search needs
-
-same-length : tie.Need-same-length
-same-length c = search needs
-
 returns-2 : tie.Need-returns-2
 returns-2 c =
     let put = c .before .before in
@@ -25,12 +16,6 @@ returns-2 c =
     let a = long .before .before .before .before .args in
     transcribed-long (a .text .now) (a .out .now) (long .before .if1 .left) (long .if2 .taken) (put .put-text .result) (put .put-text .last .0)
     (put .put-text .ensures .0) (put .put-text .ensures .1)
-
-replay-requires : tie.Need-replay-requires
-replay-requires c κs = search needs
-
-same-length-2 : tie.Need-same-length-2
-same-length-2 c = search needs
 
 returns-3 : tie.Need-returns-3
 returns-3 c =
@@ -45,10 +30,10 @@ transcript-spec =
     tie.close
     (tie.spec
     returns
-    slice-aggregate-put-text
-    put-text-requires
-    same-length
+    (λ c. search needs)
+    (λ c κs. search needs)
+    (λ c. search needs)
     returns-2
-    replay-requires
-    same-length-2
+    (λ c κs. search needs)
+    (λ c. search needs)
     returns-3)

@@ -5,21 +5,6 @@ use Rattle.images.proofs.ByteNumbers.{joined}
 use Rattle.images.proofs.numbers.number4.Statement.{statement}
 use Rattle.images.proofs.numbers.number4.Tie as tie
 
-number2-requires : tie.Need-number2-requires
-number2-requires c κs = search needs
-
-mul-result : tie.Need-mul-result
-mul-result c = search needs
-
-add-number2 : tie.Need-add-number2
-add-number2 c = search needs
-
-number2-requires-2 : tie.Need-number2-requires-2
-number2-requires-2 c κs = search needs
-
-add-result : tie.Need-add-result
-add-result c = search needs
-
 returns : tie.Need-returns
 returns c =
     let a = c .before .before .before .args in (
@@ -31,4 +16,10 @@ returns c =
 pub number4-spec : {M : Type 1} → statement M
 number4-spec =
     tie.close
-    (tie.spec number2-requires mul-result add-number2 number2-requires-2 add-result returns)
+    (tie.spec
+    (λ c κs. search needs)
+    (λ c. search needs)
+    (λ c. search needs)
+    (λ c κs. search needs)
+    (λ c. search needs)
+    returns)

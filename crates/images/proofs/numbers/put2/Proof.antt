@@ -10,18 +10,6 @@ use Rattle.images.proofs.Fronts.{put-parts, bytes-halves}
 use Rattle.images.proofs.numbers.put2.Statement.{statement}
 use Rattle.images.proofs.numbers.put2.Tie as tie
 
-put1-requires : tie.Need-put1-requires
-put1-requires c κs = search needs
-
-add-put1 : tie.Need-add-put1
-add-put1 c = search needs
-
-put1-requires-2 : tie.Need-put1-requires-2
-put1-requires-2 c κs = search needs
-
-same-length : tie.Need-same-length
-same-length c = search needs
-
 returns : tie.Need-returns
 returns c =
     let first = c .before .before .before .before .before .before in
@@ -31,4 +19,4 @@ returns c =
     ∙ ap (λ xs. take (a .i) b ++ xs ++ drop (a .i + 2) b) (bytes-halves 1 (a .x))
 
 pub put2-spec : {M : Type 1} → statement M
-put2-spec = tie.close (tie.spec put1-requires add-put1 put1-requires-2 same-length returns)
+put2-spec = tie.close (tie.spec (λ c κs. search needs) (λ c. search needs) (λ c κs. search needs) (λ c. search needs) returns)

@@ -10,18 +10,6 @@ use Rattle.images.proofs.Fronts.{put-parts, bytes-halves}
 use Rattle.images.proofs.numbers.put4.Statement.{statement}
 use Rattle.images.proofs.numbers.put4.Tie as tie
 
-put2-requires : tie.Need-put2-requires
-put2-requires c κs = search needs
-
-add-put2 : tie.Need-add-put2
-add-put2 c = search needs
-
-put2-requires-2 : tie.Need-put2-requires-2
-put2-requires-2 c κs = search needs
-
-same-length : tie.Need-same-length
-same-length c = search needs
-
 returns : tie.Need-returns
 returns c =
     let first = c .before .before .before .before .before .before in
@@ -31,4 +19,4 @@ returns c =
     ∙ ap (λ xs. take (a .i) b ++ xs ++ drop (a .i + 4) b) (bytes-halves 2 (a .x))
 
 pub put4-spec : {M : Type 1} → statement M
-put4-spec = tie.close (tie.spec put2-requires add-put2 put2-requires-2 same-length returns)
+put4-spec = tie.close (tie.spec (λ c κs. search needs) (λ c. search needs) (λ c κs. search needs) (λ c. search needs) returns)

@@ -10,18 +10,6 @@ use Rattle.images.proofs.Fronts.{put-parts, bytes-halves}
 use Rattle.images.proofs.numbers.put8.Statement.{statement}
 use Rattle.images.proofs.numbers.put8.Tie as tie
 
-put4-requires : tie.Need-put4-requires
-put4-requires c κs = search needs
-
-add-put4 : tie.Need-add-put4
-add-put4 c = search needs
-
-put4-requires-2 : tie.Need-put4-requires-2
-put4-requires-2 c κs = search needs
-
-same-length : tie.Need-same-length
-same-length c = search needs
-
 returns : tie.Need-returns
 returns c =
     let first = c .before .before .before .before .before .before in
@@ -31,4 +19,4 @@ returns c =
     ∙ ap (λ xs. take (a .i) b ++ xs ++ drop (a .i + 8) b) (bytes-halves 4 (a .x))
 
 pub put8-spec : {M : Type 1} → statement M
-put8-spec = tie.close (tie.spec put4-requires add-put4 put4-requires-2 same-length returns)
+put8-spec = tie.close (tie.spec (λ c κs. search needs) (λ c. search needs) (λ c κs. search needs) (λ c. search needs) returns)

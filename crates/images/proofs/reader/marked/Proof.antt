@@ -17,18 +17,6 @@ tested xs h l s p q = rw (le-leb headSize (length xs) s, joined xs 0 2 1 h l p q
 returns : tie.Need-returns
 returns c = rw (lt-leb headSize (length (c .before .before .args .image .now)) (c .if1 .taken))
 
-number2-requires : tie.Need-number2-requires
-number2-requires c κs = search needs
-
-mul-result : tie.Need-mul-result
-mul-result c = search needs
-
-number1-requires : tie.Need-number1-requires
-number1-requires c κs = search needs
-
-add-result : tie.Need-add-result
-add-result c = search needs
-
 returns-2 : tie.Need-returns-2
 returns-2 c =
     let s = c .before .before in
@@ -36,4 +24,10 @@ returns-2 c =
     (c .number1 .ensures .0)
 
 pub marked-spec : {M : Type 1} → statement M
-marked-spec = tie.close (tie.spec returns number2-requires mul-result number1-requires add-result returns-2)
+marked-spec = tie.close (tie.spec
+    returns
+    (λ c κs. search needs)
+    (λ c. search needs)
+    (λ c κs. search needs)
+    (λ c. search needs)
+    returns-2)

@@ -30,12 +30,6 @@ mark-holds c = sym (c .before .marked .ensures) ∙ not-false (c .before .marked
 version-holds : (c : tie.Else2) → versionIn (image2 c) ≡ version
 version-holds c = sym (c .before .number2 .ensures .0) ∙ c .if2 .left
 
-marked-requires : tie.Need-marked-requires
-marked-requires c κs = search needs
-
-refused-requires : tie.Need-refused-requires
-refused-requires c κs = search needs
-
 returns : tie.Need-returns
 returns c =
     let m = c .before .before .marked in
@@ -44,9 +38,6 @@ returns c =
 
 number2-requires : tie.Need-number2-requires
 number2-requires c κs = omega (arith, marked-size (image1 c) (mark-holds c))
-
-refused-requires-2 : tie.Need-refused-requires-2
-refused-requires-2 c κs = search needs
 
 returns-2 : tie.Need-returns-2
 returns-2 c =
@@ -60,9 +51,6 @@ number2-requires-2 c κs = omega (arith, marked-size (image2 c) (mark-holds (c .
 number2-requires-3 : tie.Need-number2-requires-3
 number2-requires-3 c κs = omega (arith, marked-size (image2 (c .before)) (mark-holds (c .before .before .before)))
 
-refused-requires-3 : tie.Need-refused-requires-3
-refused-requires-3 c κs = search needs
-
 returns-3 : tie.Need-returns-3
 returns-3 c =
     let k = c .before .before in
@@ -70,30 +58,12 @@ returns-3 c =
     faulty (mark-holds (v .before .before)) (version-holds v)
     (many-devices (image3 k) (k .before .number22 .result) (k .before .number22 .ensures .0) (c .before .if3 .taken)) (c .refused3 .ensures)
 
-refused-requires-4 : tie.Need-refused-requires-4
-refused-requires-4 c κs = search needs
-
 returns-4 : tie.Need-returns-4
 returns-4 c =
     let k = c .before .before .before in
     let v = k .before .before in
     faulty (mark-holds (v .before .before)) (version-holds v)
     (many-intervals (image3 k) (k .number23 .result) (k .number23 .ensures .0) (c .before .if4 .taken)) (c .refused4 .ensures)
-
-mul-if5 : tie.Need-mul-if5
-mul-if5 c = search needs
-
-add-if5 : tie.Need-add-if5
-add-if5 c = search needs
-
-mul-if5-2 : tie.Need-mul-if5-2
-mul-if5-2 c = search needs
-
-add-if5-2 : tie.Need-add-if5-2
-add-if5-2 c = search needs
-
-refused-requires-5 : tie.Need-refused-requires-5
-refused-requires-5 c κs = search needs
 
 returns-5 : tie.Need-returns-5
 returns-5 c =
@@ -103,15 +73,6 @@ returns-5 c =
     (another-size (image3 k) (k .before .number22 .result) (k .number23 .result) (k .before .number22 .ensures .0) (k .number23 .ensures .0)
     (λ e. omega (arith, e, c .before .if5 .taken)))
     (c .refused5 .ensures)
-
-described-requires : tie.Need-described-requires
-described-requires c κs = search needs
-
-valid-requires : tie.Need-valid-requires
-valid-requires c κs = search needs
-
-refused-requires-6 : tie.Need-refused-requires-6
-refused-requires-6 c κs = search needs
 
 returns-6 : tie.Need-returns-6
 returns-6 c =
@@ -140,26 +101,26 @@ pub read-spec : {M : Type 1} → statement M
 read-spec =
     tie.close
     (tie.spec
-    marked-requires
-    refused-requires
+    (λ c κs. search needs)
+    (λ c κs. search needs)
     returns
     number2-requires
-    refused-requires-2
+    (λ c κs. search needs)
     returns-2
     number2-requires-2
     number2-requires-3
-    refused-requires-3
+    (λ c κs. search needs)
     returns-3
-    refused-requires-4
+    (λ c κs. search needs)
     returns-4
-    mul-if5
-    add-if5
-    mul-if5-2
-    add-if5-2
-    refused-requires-5
+    (λ c. search needs)
+    (λ c. search needs)
+    (λ c. search needs)
+    (λ c. search needs)
+    (λ c κs. search needs)
     returns-5
-    described-requires
-    valid-requires
-    refused-requires-6
+    (λ c κs. search needs)
+    (λ c κs. search needs)
+    (λ c κs. search needs)
     returns-6
     returns-7)

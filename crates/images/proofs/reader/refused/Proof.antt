@@ -5,11 +5,8 @@ use Rattle.placement.specs.declared.PoolAnswer.{PoolAnswer}
 use Rattle.images.proofs.reader.refused.Statement.{statement}
 use Rattle.images.proofs.reader.refused.Tie as tie
 
-fresh-requires : tie.Need-fresh-requires
-fresh-requires c κs = search needs
-
 returns : tie.Need-returns
 returns c = ap {B = PoolAnswer} (λ p. record { refusal = c .before .before .args .number; pool = p }) (c .before .fresh .ensures .pool)
 
 pub refused-spec : {M : Type 1} → statement M
-refused-spec = tie.close (tie.spec fresh-requires returns)
+refused-spec = tie.close (tie.spec (λ c κs. search needs) returns)

@@ -11,27 +11,6 @@ use Rattle.images.proofs.Fronts.{put-parts}
 use Rattle.images.proofs.rows.put_row.Statement.{statement}
 use Rattle.images.proofs.rows.put_row.Tie as tie
 
-put2-requires : tie.Need-put2-requires
-put2-requires c κs = search needs
-
-add-put4 : tie.Need-add-put4
-add-put4 c = search needs
-
-put4-requires : tie.Need-put4-requires
-put4-requires c κs = search needs
-
-put4-requires-2 : tie.Need-put4-requires-2
-put4-requires-2 c κs = search needs
-
-add-put2 : tie.Need-add-put2
-add-put2 c = search needs
-
-put2-requires-2 : tie.Need-put2-requires-2
-put2-requires-2 c κs = search needs
-
-same-length : tie.Need-same-length
-same-length c = search needs
-
 returns : tie.Need-returns
 returns c =
     let first = c .before .before .before .before .before .before in
@@ -39,9 +18,6 @@ returns c =
     let b = a .rows .now in
     put-parts b (bytes 2 (a .short)) (bytes 4 (a .long)) _ _ (a .i) 2 4 refl (omega arith) (first .put2 .ensures) (c .before .before .put4 .ensures)
     ∙ ap (λ t. take (a .i) b ++ rowBytes t (a .short) (a .long) ++ drop (a .i + 6) b) (sym (first .before .before .if1 .taken))
-
-same-length-2 : tie.Need-same-length-2
-same-length-2 c = search needs
 
 returns-2 : tie.Need-returns-2
 returns-2 c =
@@ -55,13 +31,13 @@ pub put-row-spec : {M : Type 1} → statement M
 put-row-spec =
     tie.close
     (tie.spec
-    put2-requires
-    add-put4
-    put4-requires
-    put4-requires-2
-    add-put2
-    put2-requires-2
-    same-length
+    (λ c κs. search needs)
+    (λ c. search needs)
+    (λ c κs. search needs)
+    (λ c κs. search needs)
+    (λ c. search needs)
+    (λ c κs. search needs)
+    (λ c. search needs)
     returns
-    same-length-2
+    (λ c. search needs)
     returns-2)

@@ -17,44 +17,11 @@ loop-holds c =
     let a = c .before .before .before .args in
     (omega arith, filled-none 2 (a .short) (a .rows .now) (a .shorts .now), filled-none 4 (a .long) (a .rows .now) (a .longs .now))
 
-mul-row : tie.Need-mul-row Inv-loop μ-loop
-mul-row c = omega arith
-
-add-number2 : tie.Need-add-number2 Inv-loop μ-loop
-add-number2 c = omega arith
-
-number2-requires : tie.Need-number2-requires Inv-loop μ-loop
-number2-requires c κs = omega arith
-
 cast-shorts : tie.Need-cast-shorts Inv-loop μ-loop
 cast-shorts c = omega (arith, c .number2 .ensures .1)
 
-mul-shorts : tie.Need-mul-shorts Inv-loop μ-loop
-mul-shorts c = omega arith
-
-slice-write-shorts : tie.Need-slice-write-shorts Inv-loop μ-loop
-slice-write-shorts c = omega arith
-
-add-number4 : tie.Need-add-number4 Inv-loop μ-loop
-add-number4 c = omega arith
-
-number4-requires : tie.Need-number4-requires Inv-loop μ-loop
-number4-requires c κs = omega arith
-
 cast-longs : tie.Need-cast-longs Inv-loop μ-loop
 cast-longs c = omega (arith, c .number4 .ensures .1)
-
-mul-longs : tie.Need-mul-longs Inv-loop μ-loop
-mul-longs c = omega arith
-
-slice-write-longs : tie.Need-slice-write-longs Inv-loop μ-loop
-slice-write-longs c = omega arith
-
-add-i : tie.Need-add-i Inv-loop μ-loop
-add-i c = omega arith
-
-loop-less : tie.Need-loop-less Inv-loop μ-loop
-loop-less c = omega arith
 
 loop-again : tie.Need-loop-again Inv-loop μ-loop
 loop-again c =
@@ -86,19 +53,19 @@ read-columns-spec =
     Inv-loop
     μ-loop
     loop-holds
-    mul-row
-    add-number2
-    number2-requires
+    (λ c. omega arith)
+    (λ c. omega arith)
+    (λ c κs. omega arith)
     cast-shorts
-    mul-shorts
-    slice-write-shorts
-    add-number4
-    number4-requires
+    (λ c. omega arith)
+    (λ c. omega arith)
+    (λ c. omega arith)
+    (λ c κs. omega arith)
     cast-longs
-    mul-longs
-    slice-write-longs
-    add-i
-    loop-less
+    (λ c. omega arith)
+    (λ c. omega arith)
+    (λ c. omega arith)
+    (λ c. omega arith)
     loop-again
     same-length
     same-length-2

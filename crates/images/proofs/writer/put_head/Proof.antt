@@ -4,30 +4,6 @@ use Rattle.images.proofs.Fronts.{head-put}
 use Rattle.images.proofs.writer.put_head.Statement.{statement}
 use Rattle.images.proofs.writer.put_head.Tie as tie
 
-put2-requires : tie.Need-put2-requires
-put2-requires c κs = search needs
-
-put1-requires : tie.Need-put1-requires
-put1-requires c κs = search needs
-
-put2-requires-2 : tie.Need-put2-requires-2
-put2-requires-2 c κs = search needs
-
-put8-requires : tie.Need-put8-requires
-put8-requires c κs = search needs
-
-put2-requires-3 : tie.Need-put2-requires-3
-put2-requires-3 c κs = search needs
-
-put2-requires-4 : tie.Need-put2-requires-4
-put2-requires-4 c κs = search needs
-
-put2-requires-5 : tie.Need-put2-requires-5
-put2-requires-5 c κs = search needs
-
-same-length : tie.Need-same-length
-same-length c = search needs
-
 returns : tie.Need-returns
 returns c =
     let n7 = c .before .before in
@@ -45,12 +21,12 @@ pub put-head-spec : {M : Type 1} → statement M
 put-head-spec =
     tie.close
     (tie.spec
-    put2-requires
-    put1-requires
-    put2-requires-2
-    put8-requires
-    put2-requires-3
-    put2-requires-4
-    put2-requires-5
-    same-length
+    (λ c κs. search needs)
+    (λ c κs. search needs)
+    (λ c κs. search needs)
+    (λ c κs. search needs)
+    (λ c κs. search needs)
+    (λ c κs. search needs)
+    (λ c κs. search needs)
+    (λ c. search needs)
     returns)

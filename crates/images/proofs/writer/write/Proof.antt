@@ -11,9 +11,6 @@ use Rattle.images.proofs.writer.write.Tie as tie
 valid-pool : (c : tie.Else1) → ValidPool (c .before .before .before .args .pool)
 valid-pool c = rw (not-false (c .before .valid .result) (c .if1 .left)) at (c .before .valid .ensures)
 
-valid-requires : tie.Need-valid-requires
-valid-requires c κs = search needs
-
 returns : tie.Need-returns
 returns c =
     let s = c .before .before .before in
@@ -49,9 +46,6 @@ put-image-requires c κs =
     let v = c .before .before .before .before in
     (valid-pool v, c .before .if2 .left)
 
-same-length : tie.Need-same-length
-same-length c = search needs
-
 returns-3 : tie.Need-returns-3
 returns-3 c =
     let put = c .before .before in
@@ -63,7 +57,7 @@ pub write-spec : {M : Type 1} → statement M
 write-spec =
     tie.close
     (tie.spec
-    valid-requires
+    (λ c κs. search needs)
     returns
     mul-size
     add-size
@@ -71,5 +65,5 @@ write-spec =
     add-size-2
     returns-2
     put-image-requires
-    same-length
+    (λ c. search needs)
     returns-3)

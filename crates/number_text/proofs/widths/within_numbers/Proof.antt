@@ -5,11 +5,8 @@ use borrow.Author.Needs.{needs}
 use Rattle.number_text.proofs.widths.within_numbers.Statement.{statement}
 use Rattle.number_text.proofs.widths.within_numbers.Tie as tie
 
-least-requires : tie.Need-least-requires
-least-requires c κs = search needs
-
 returns : tie.Need-returns
 returns c = (search needs, simp length-take (omega arith))
 
 pub within-numbers-spec : {M : Type 1} → statement M
-within-numbers-spec = tie.close (tie.spec least-requires returns)
+within-numbers-spec = tie.close (tie.spec (λ c κs. search needs) returns)

@@ -20,45 +20,6 @@ end-at c = ⊎-elim (λ w. w .2 ∙ sym (endAt-next _ _ _ _ (w .0 .taken))) (λ 
 loop-holds : tie.Need-loop-holds Inv-loop μ-loop
 loop-holds c = measured-none _ _ _
 
-add-if1 : tie.Need-add-if1 Inv-loop μ-loop
-add-if1 c = omega arith
-
-add-end : tie.Need-add-end Inv-loop μ-loop
-add-end c = omega arith
-
-mul-end : tie.Need-mul-end Inv-loop μ-loop
-mul-end c = omega arith
-
-element-copy-out-end : tie.Need-element-copy-out-end Inv-loop μ-loop
-element-copy-out-end c = omega arith
-
-mul-if2 : tie.Need-mul-if2 Inv-loop μ-loop
-mul-if2 c = omega arith
-
-element-copy-out-if2 : tie.Need-element-copy-out-if2 Inv-loop μ-loop
-element-copy-out-if2 c = omega arith
-
-mul-into : tie.Need-mul-into Inv-loop μ-loop
-mul-into c = omega arith
-
-element-copy-out-into : tie.Need-element-copy-out-into Inv-loop μ-loop
-element-copy-out-into c = omega arith
-
-sub-into : tie.Need-sub-into Inv-loop μ-loop
-sub-into c = omega arith
-
-mul-into-2 : tie.Need-mul-into-2 Inv-loop μ-loop
-mul-into-2 c = omega arith
-
-array-write-into : tie.Need-array-write-into Inv-loop μ-loop
-array-write-into c = omega arith
-
-add-i : tie.Need-add-i Inv-loop μ-loop
-add-i c = omega arith
-
-loop-less : tie.Need-loop-less Inv-loop μ-loop
-loop-less c = omega arith
-
 loop-again : tie.Need-loop-again Inv-loop μ-loop
 loop-again c =
     let inside = c .before .before .before in
@@ -76,18 +37,18 @@ lengths-of-spec =
     Inv-loop
     μ-loop
     loop-holds
-    add-if1
-    add-end
-    mul-end
-    element-copy-out-end
-    mul-if2
-    element-copy-out-if2
-    mul-into
-    element-copy-out-into
-    sub-into
-    mul-into-2
-    array-write-into
-    add-i
-    loop-less
+    (λ c. omega arith)
+    (λ c. omega arith)
+    (λ c. omega arith)
+    (λ c. omega arith)
+    (λ c. omega arith)
+    (λ c. omega arith)
+    (λ c. omega arith)
+    (λ c. omega arith)
+    (λ c. omega arith)
+    (λ c. omega arith)
+    (λ c. omega arith)
+    (λ c. omega arith)
+    (λ c. omega arith)
     loop-again
     returns)

@@ -17,26 +17,8 @@ abbrev μ-loop : tie.MeasureT-loop
 loop-holds : tie.Need-loop-holds Inv-loop μ-loop
 loop-holds c = (omega arith, refl)
 
-mul-into : tie.Need-mul-into Inv-loop μ-loop
-mul-into c = omega arith
-
-element-copy-out-into : tie.Need-element-copy-out-into Inv-loop μ-loop
-element-copy-out-into c = omega arith
-
 cast-into : tie.Need-cast-into Inv-loop μ-loop
 cast-into c = record { fits = c .before .before .before .pre .1 (c .before .before .loop .i) (c .before .loop-test .taken) }
-
-mul-into-2 : tie.Need-mul-into-2 Inv-loop μ-loop
-mul-into-2 c = omega arith
-
-array-write-into : tie.Need-array-write-into Inv-loop μ-loop
-array-write-into c = omega arith
-
-add-i : tie.Need-add-i Inv-loop μ-loop
-add-i c = omega arith
-
-loop-less : tie.Need-loop-less Inv-loop μ-loop
-loop-less c = omega arith
 
 loop-again : tie.Need-loop-again Inv-loop μ-loop
 loop-again c =
@@ -56,12 +38,12 @@ owners-of-spec =
     Inv-loop
     μ-loop
     loop-holds
-    mul-into
-    element-copy-out-into
+    (λ c. omega arith)
+    (λ c. omega arith)
     cast-into
-    mul-into-2
-    array-write-into
-    add-i
-    loop-less
+    (λ c. omega arith)
+    (λ c. omega arith)
+    (λ c. omega arith)
+    (λ c. omega arith)
     loop-again
     returns)

@@ -28,26 +28,8 @@ loop-holds c = (omega arith, refl, refl)
 cast-into : tie.Need-cast-into Inv-loop μ-loop
 cast-into c = omega (arith, start-below c, c .before .before .pre .2 (c .before .loop .i) (c .loop-test .taken))
 
-mul-into : tie.Need-mul-into Inv-loop μ-loop
-mul-into c = omega arith
-
-array-write-into : tie.Need-array-write-into Inv-loop μ-loop
-array-write-into c = omega arith
-
-mul-start : tie.Need-mul-start Inv-loop μ-loop
-mul-start c = omega arith
-
-element-copy-out-start : tie.Need-element-copy-out-start Inv-loop μ-loop
-element-copy-out-start c = omega arith
-
 add-start : tie.Need-add-start Inv-loop μ-loop
 add-start c = omega (arith, start-below (c .before))
-
-add-i : tie.Need-add-i Inv-loop μ-loop
-add-i c = omega arith
-
-loop-less : tie.Need-loop-less Inv-loop μ-loop
-loop-less c = omega arith
 
 loop-again : tie.Need-loop-again Inv-loop μ-loop
 loop-again c =
@@ -71,12 +53,12 @@ starts-of-spec =
     μ-loop
     loop-holds
     cast-into
-    mul-into
-    array-write-into
-    mul-start
-    element-copy-out-start
+    (λ c. omega arith)
+    (λ c. omega arith)
+    (λ c. omega arith)
+    (λ c. omega arith)
     add-start
-    add-i
-    loop-less
+    (λ c. omega arith)
+    (λ c. omega arith)
     loop-again
     returns)

@@ -8,17 +8,11 @@ use Rattle.placement.proofs.Deciding.{decides-or}
 use Rattle.placement.proofs.change.admits.Statement.{statement}
 use Rattle.placement.proofs.change.admits.Tie as tie
 
-admits-id-requires : tie.Need-admits-id-requires
-admits-id-requires c κs = search needs
-
 returns : tie.Need-returns
 returns c =
     let a = c .before .before .args in
     λ h. (rw (not-true (c .before .admits-id .result) (c .if1 .taken)) at (c .before .admits-id .ensures))
     (h .0, or-false (outside maxId (a .id)) (outside maxCapacity (a .capacity)) (h .1) .0)
-
-outside-requires : tie.Need-outside-requires
-outside-requires c κs = search needs
 
 returns-2 : tie.Need-returns-2
 returns-2 c =
@@ -27,4 +21,4 @@ returns-2 c =
     (rw (not-false (v .admits-id .result) (c .before .if1 .left)) at (v .admits-id .ensures))
 
 pub admits-spec : {M : Type 1} → statement M
-admits-spec = tie.close (tie.spec admits-id-requires returns outside-requires returns-2)
+admits-spec = tie.close (tie.spec (λ c κs. search needs) returns (λ c κs. search needs) returns-2)

@@ -6,14 +6,8 @@ use Rattle.placement.proofs.Deciding.{decides-not}
 use Rattle.placement.proofs.change.admits_id.Statement.{statement}
 use Rattle.placement.proofs.change.admits_id.Tie as tie
 
-valid-requires : tie.Need-valid-requires
-valid-requires c κs = search needs
-
 returns : tie.Need-returns
 returns c = λ h. (rw (not-true (c .before .valid .result) (c .if1 .taken)) at (c .before .valid .ensures)) (h .0)
-
-outside-requires : tie.Need-outside-requires
-outside-requires c κs = search needs
 
 returns-2 : tie.Need-returns-2
 returns-2 c =
@@ -22,4 +16,4 @@ returns-2 c =
     (rw (not-false (v .valid .result) (c .before .if1 .left)) at (v .valid .ensures))
 
 pub admits-id-spec : {M : Type 1} → statement M
-admits-id-spec = tie.close (tie.spec valid-requires returns outside-requires returns-2)
+admits-id-spec = tie.close (tie.spec (λ c κs. search needs) returns (λ c κs. search needs) returns-2)

@@ -7,15 +7,6 @@ use Rattle.slicing_core.proofs.DeviceRows.{position-present, position-absent}
 use Rattle.placement.proofs.change.find.Statement.{statement}
 use Rattle.placement.proofs.change.find.Tie as tie
 
-position-requires : tie.Need-position-requires
-position-requires c κs = search needs
-
-mul-if2 : tie.Need-mul-if2
-mul-if2 c = search needs
-
-element-copy-out-if2 : tie.Need-element-copy-out-if2
-element-copy-out-if2 c = search needs
-
 returns : tie.Need-returns
 returns c =
     let l = c .before .before .if1 .taken in
@@ -40,4 +31,4 @@ returns-3 c =
 
 pub find-spec : {M : Type 1} → statement M
 find-spec =
-    tie.close (tie.spec position-requires mul-if2 element-copy-out-if2 returns returns-2 returns-3)
+    tie.close (tie.spec (λ c κs. search needs) (λ c. search needs) (λ c. search needs) returns returns-2 returns-3)

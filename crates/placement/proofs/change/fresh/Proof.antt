@@ -5,29 +5,17 @@ use Rattle.placement.proofs.FreshPools.{fresh-refused, fresh-made}
 use Rattle.placement.proofs.change.fresh.Statement.{statement}
 use Rattle.placement.proofs.change.fresh.Tie as tie
 
-bare-requires : tie.Need-bare-requires
-bare-requires c κs = search needs
-
 returns : tie.Need-returns
 returns c = fresh-refused _ _ _ (rw (lt-ltb _ _ (c .before .if1 .taken))) (c .bare .ensures)
 
-bare-requires-2 : tie.Need-bare-requires-2
-bare-requires-2 c κs = search needs
-
 returns-2 : tie.Need-returns-2
 returns-2 c = fresh-refused _ _ _ (rw (le-ltb _ _ (c .before .before .if1 .left), lt-ltb _ _ (c .before .if2 .taken))) (c .bare2 .ensures)
-
-bare-requires-3 : tie.Need-bare-requires-3
-bare-requires-3 c κs = search needs
 
 returns-3 : tie.Need-returns-3
 returns-3 c =
     let past = c .before .before in
     fresh-refused _ _ _ (rw (le-ltb _ _ (past .before .if1 .left), le-ltb _ _ (past .if2 .left), lt-ltb _ _ (c .before .if3 .taken)))
     (c .bare3 .ensures)
-
-bare-requires-4 : tie.Need-bare-requires-4
-bare-requires-4 c κs = search needs
 
 returns-4 : tie.Need-returns-4
 returns-4 c =
@@ -39,12 +27,6 @@ returns-4 c =
       le-ltb _ _ (c .before .before .if3 .left),
       lt-ltb _ _ (c .before .if4 .taken),
     )) (c .bare4 .ensures)
-
-cast-bare : tie.Need-cast-bare
-cast-bare c = search needs
-
-bare-requires-5 : tie.Need-bare-requires-5
-bare-requires-5 c κs = search needs
 
 returns-5 : tie.Need-returns-5
 returns-5 c =
@@ -61,14 +43,14 @@ pub fresh-spec : {M : Type 1} → statement M
 fresh-spec =
     tie.close
     (tie.spec
-    bare-requires
+    (λ c κs. search needs)
     returns
-    bare-requires-2
+    (λ c κs. search needs)
     returns-2
-    bare-requires-3
+    (λ c κs. search needs)
     returns-3
-    bare-requires-4
+    (λ c κs. search needs)
     returns-4
-    cast-bare
-    bare-requires-5
+    (λ c. search needs)
+    (λ c κs. search needs)
     returns-5)

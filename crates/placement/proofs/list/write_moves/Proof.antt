@@ -15,71 +15,14 @@ abbrev μ-loop : tie.MeasureT-loop
 loop-holds : tie.Need-loop-holds Inv-loop μ-loop
 loop-holds c = written-none _ _ _ _ _
 
-mul-place : tie.Need-mul-place Inv-loop μ-loop
-mul-place c = omega arith
-
-mul-list : tie.Need-mul-list Inv-loop μ-loop
-mul-list c = omega arith
-
-element-copy-out-list : tie.Need-element-copy-out-list Inv-loop μ-loop
-element-copy-out-list c = omega arith
-
-mul-list-2 : tie.Need-mul-list-2 Inv-loop μ-loop
-mul-list-2 c = omega arith
-
-slice-write-list : tie.Need-slice-write-list Inv-loop μ-loop
-slice-write-list c = omega arith
-
-mul-list-3 : tie.Need-mul-list-3 Inv-loop μ-loop
-mul-list-3 c = omega arith
-
-element-copy-out-list-2 : tie.Need-element-copy-out-list-2 Inv-loop μ-loop
-element-copy-out-list-2 c = omega arith
-
-add-list : tie.Need-add-list Inv-loop μ-loop
-add-list c = omega arith
-
-mul-list-4 : tie.Need-mul-list-4 Inv-loop μ-loop
-mul-list-4 c = omega arith
-
 slice-write-list-2 : tie.Need-slice-write-list-2 Inv-loop μ-loop
 slice-write-list-2 c = simp length-set (omega arith)
-
-mul-list-5 : tie.Need-mul-list-5 Inv-loop μ-loop
-mul-list-5 c = omega arith
-
-element-copy-out-list-3 : tie.Need-element-copy-out-list-3 Inv-loop μ-loop
-element-copy-out-list-3 c = omega arith
-
-add-list-2 : tie.Need-add-list-2 Inv-loop μ-loop
-add-list-2 c = omega arith
-
-mul-list-6 : tie.Need-mul-list-6 Inv-loop μ-loop
-mul-list-6 c = omega arith
 
 slice-write-list-3 : tie.Need-slice-write-list-3 Inv-loop μ-loop
 slice-write-list-3 c = simp length-set (omega arith)
 
-mul-list-7 : tie.Need-mul-list-7 Inv-loop μ-loop
-mul-list-7 c = omega arith
-
-element-copy-out-list-4 : tie.Need-element-copy-out-list-4 Inv-loop μ-loop
-element-copy-out-list-4 c = omega arith
-
-add-list-3 : tie.Need-add-list-3 Inv-loop μ-loop
-add-list-3 c = omega arith
-
-mul-list-8 : tie.Need-mul-list-8 Inv-loop μ-loop
-mul-list-8 c = omega arith
-
 slice-write-list-4 : tie.Need-slice-write-list-4 Inv-loop μ-loop
 slice-write-list-4 c = simp length-set (omega arith)
-
-add-i : tie.Need-add-i Inv-loop μ-loop
-add-i c = omega arith
-
-loop-less : tie.Need-loop-less Inv-loop μ-loop
-loop-less c = omega arith
 
 loop-again : tie.Need-loop-again Inv-loop μ-loop
 loop-again c =
@@ -99,28 +42,28 @@ write-moves-spec =
     Inv-loop
     μ-loop
     loop-holds
-    mul-place
-    mul-list
-    element-copy-out-list
-    mul-list-2
-    slice-write-list
-    mul-list-3
-    element-copy-out-list-2
-    add-list
-    mul-list-4
+    (λ c. omega arith)
+    (λ c. omega arith)
+    (λ c. omega arith)
+    (λ c. omega arith)
+    (λ c. omega arith)
+    (λ c. omega arith)
+    (λ c. omega arith)
+    (λ c. omega arith)
+    (λ c. omega arith)
     slice-write-list-2
-    mul-list-5
-    element-copy-out-list-3
-    add-list-2
-    mul-list-6
+    (λ c. omega arith)
+    (λ c. omega arith)
+    (λ c. omega arith)
+    (λ c. omega arith)
     slice-write-list-3
-    mul-list-7
-    element-copy-out-list-4
-    add-list-3
-    mul-list-8
+    (λ c. omega arith)
+    (λ c. omega arith)
+    (λ c. omega arith)
+    (λ c. omega arith)
     slice-write-list-4
-    add-i
-    loop-less
+    (λ c. omega arith)
+    (λ c. omega arith)
     loop-again
     same-length
     returns)

@@ -10,9 +10,6 @@ use Rattle.placement.specs.Pools.{stateOf}
 use Rattle.placement.proofs.settle.settle.Statement.{statement}
 use Rattle.placement.proofs.settle.settle.Tie as tie
 
-turns-of-requires : tie.Need-turns-of-requires
-turns-of-requires c κs = search needs
-
 new-table-requires : tie.Need-new-table-requires
 new-table-requires c κs =
     let t = c .before .before .before .before in
@@ -27,12 +24,6 @@ new-table-requires c κs =
         valid-limited (a .pool) (s .pre .0 .0) .most,
       ),
     )
-
-cast-limit : tie.Need-cast-limit
-cast-limit c = search needs
-
-still-requires : tie.Need-still-requires
-still-requires c κs = search needs
 
 returns : tie.Need-returns
 returns c =
@@ -57,9 +48,6 @@ moves-of-requires c κs =
       t .turns-of .ensures .1 .0,
       omega (arith, total-plan (a .pool) (s .pre .0 .0) (s .pre .0 .1) (a .ids .now) (a .capacities .now) (a .n) (s .pre .0 .4) (s .pre .0 .2) (u .sizes) (u .labels) (u .count) (t .turns-of .ensures .0), valid-limited (a .pool) (s .pre .0 .0) .most),
     )
-
-still-requires-2 : tie.Need-still-requires-2
-still-requires-2 c κs = search needs
 
 returns-2 : tie.Need-returns-2
 returns-2 c =
@@ -132,13 +120,13 @@ pub settle-spec : {M : Type 1} → statement M
 settle-spec =
     tie.close
     (tie.spec
-    turns-of-requires
+    (λ c κs. search needs)
     new-table-requires
-    cast-limit
-    still-requires
+    (λ c. search needs)
+    (λ c κs. search needs)
     returns
     moves-of-requires
-    still-requires-2
+    (λ c κs. search needs)
     returns-2
     packed-requires
     returns-3)

@@ -6,26 +6,14 @@ use Rattle.placement.proofs.Deciding.{decides-iff}
 use Rattle.placement.proofs.valid.cleared.Statement.{statement}
 use Rattle.placement.proofs.valid.cleared.Tie as tie
 
-zeros-from-requires : tie.Need-zeros-from-requires
-zeros-from-requires c κs = search needs
-
 returns : tie.Need-returns
 returns c = λ h. (rw (not-true (c .before .zeros-from .result) (c .if1 .taken)) at (c .before .zeros-from .ensures)) (h .noIds)
-
-zeros-from-requires-2 : tie.Need-zeros-from-requires-2
-zeros-from-requires-2 c κs = search needs
 
 returns-2 : tie.Need-returns-2
 returns-2 c = λ h. (rw (not-true (c .before .zeros-from2 .result) (c .if2 .taken)) at (c .before .zeros-from2 .ensures)) (h .noCapacities)
 
-zeros-from-requires-3 : tie.Need-zeros-from-requires-3
-zeros-from-requires-3 c κs = search needs
-
 returns-3 : tie.Need-returns-3
 returns-3 c = λ h. (rw (not-true (c .before .zeros-from3 .result) (c .if3 .taken)) at (c .before .zeros-from3 .ensures)) (h .noStarts)
-
-zeros-from-requires-4 : tie.Need-zeros-from-requires-4
-zeros-from-requires-4 c κs = search needs
 
 returns-4 : tie.Need-returns-4
 returns-4 c =
@@ -48,11 +36,11 @@ pub cleared-spec : {M : Type 1} → statement M
 cleared-spec =
     tie.close
     (tie.spec
-    zeros-from-requires
+    (λ c κs. search needs)
     returns
-    zeros-from-requires-2
+    (λ c κs. search needs)
     returns-2
-    zeros-from-requires-3
+    (λ c κs. search needs)
     returns-3
-    zeros-from-requires-4
+    (λ c κs. search needs)
     returns-4)

@@ -8,12 +8,6 @@ use Rattle.placement.proofs.HeldRows.{below-rows, below-capacities, som
 use Rattle.placement.proofs.valid.covered.Statement.{statement}
 use Rattle.placement.proofs.valid.covered.Tie as tie
 
-lengths-of-requires : tie.Need-lengths-of-requires
-lengths-of-requires c κs = search needs
-
-coalesced-requires : tie.Need-coalesced-requires
-coalesced-requires c κs = search needs
-
 returns : tie.Need-returns
 returns c = λ h.
     (rw (not-true (c .before .coalesced .result) (c .if1 .taken)) at (c .before .coalesced .ensures))
@@ -28,9 +22,6 @@ sum-requires c κs =
 returns-2 : tie.Need-returns-2
 returns-2 c = λ h.
     c .if2 .taken (c .before .sum .ensures ∙ rw (c .before .before .before .before .before .before .lengths-of .ensures .0) (h .covers))
-
-none-requires : tie.Need-none-requires
-none-requires c κs = search needs
 
 by-owner-requires : tie.Need-by-owner-requires
 by-owner-requires c κs =
@@ -67,12 +58,12 @@ pub covered-spec : {M : Type 1} → statement M
 covered-spec =
     tie.close
     (tie.spec
-    lengths-of-requires
-    coalesced-requires
+    (λ c κs. search needs)
+    (λ c κs. search needs)
     returns
     sum-requires
     returns-2
-    none-requires
+    (λ c κs. search needs)
     by-owner-requires
     shares-requires
     hold-requires

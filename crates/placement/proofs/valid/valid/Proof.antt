@@ -59,9 +59,6 @@ clears : (c : tie.Else3) → let w = widened (risen (c .before) .before) in
     Cleared (ids w) (capacities w) (pool w .devices) (starts w) (owners w) (pool w .intervals)
 clears c = rw (not-false (c .before .cleared .result) (c .if3 .left)) at (c .before .cleared .ensures)
 
-limited-requires : tie.Need-limited-requires
-limited-requires c κs = search needs
-
 returns : tie.Need-returns
 returns c = λ v. (rw (not-true (c .before .limited .result) (c .if1 .taken)) at (c .before .limited .ensures)) (valid-limited _ v)
 
@@ -72,9 +69,6 @@ returns-2 : tie.Need-returns-2
 returns-2 c =
     rising-refused (wide (widened (c .before)))
     (rw (not-true (c .before .rising .result) (c .if2 .taken)) at (c .before .rising .ensures))
-
-cleared-requires : tie.Need-cleared-requires
-cleared-requires c κs = search needs
 
 returns-3 : tie.Need-returns-3
 returns-3 c =
@@ -110,7 +104,7 @@ pub valid-spec : {M : Type 1} → statement M
 valid-spec =
     tie.close
     (tie.spec
-    limited-requires
+    (λ c κs. search needs)
     returns
     (λ c. search needs)
     (λ c. search needs)
@@ -124,7 +118,7 @@ valid-spec =
     (λ c κs. search needs)
     rising-requires
     returns-2
-    cleared-requires
+    (λ c κs. search needs)
     returns-3
     returns-4
     covered-requires

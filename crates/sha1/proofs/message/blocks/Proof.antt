@@ -3,11 +3,5 @@ use borrow.Author.Needs.{needs}
 use Rattle.sha1.proofs.message.blocks.Statement.{statement}
 use Rattle.sha1.proofs.message.blocks.Tie as tie
 
-add-result : tie.Need-add-result
-add-result c = search needs
-
-returns : tie.Need-returns
-returns c = search needs
-
 pub blocks-spec : {M : Type 1} → statement M
-blocks-spec = tie.close (tie.spec add-result returns)
+blocks-spec = tie.close (tie.spec (λ c. search needs) (λ c. search needs))

@@ -8,9 +8,6 @@ use Rattle.sha1.proofs.Padding.{length-pad, getD-pad-message, getD-pad-
 use Rattle.sha1.proofs.message.padded_byte.Statement.{statement}
 use Rattle.sha1.proofs.message.padded_byte.Tie as tie
 
-shared-slice-read-result : tie.Need-shared-slice-read-result
-shared-slice-read-result c = search needs
-
 returns : tie.Need-returns
 returns c =
     let start = c .before .before .before in
@@ -18,15 +15,6 @@ returns c =
 
 returns-2 : tie.Need-returns-2
 returns-2 c = sym (rw (c .if2 .taken) (getD-pad-mark (c .before .before .before .args .message .now)))
-
-blocks-requires : tie.Need-blocks-requires
-blocks-requires c κs = search needs
-
-mul-behind : tie.Need-mul-behind
-mul-behind c = search needs
-
-sub-behind : tie.Need-sub-behind
-sub-behind c = search needs
 
 sub-behind-2 : tie.Need-sub-behind-2
 sub-behind-2 c =
@@ -39,18 +27,6 @@ returns-3 c =
     let m : List ℕ = start .args .message .now in
     sym (getD-pad-zero m (start .args .at) (omega (arith, c .before .before .if2 .left)) (omega (arith, length-pad m)))
 
-mul-result : tie.Need-mul-result
-mul-result c = search needs
-
-mul-result-2 : tie.Need-mul-result-2
-mul-result-2 c = search needs
-
-shr-result : tie.Need-shr-result
-shr-result c = search needs
-
-cast-result : tie.Need-cast-result
-cast-result c = search needs
-
 returns-4 : tie.Need-returns-4
 returns-4 c =
     let start = c .before .before .before .before .before in
@@ -61,16 +37,16 @@ pub padded-byte-spec : {M : Type 1} → statement M
 padded-byte-spec =
     tie.close
     (tie.spec
-    shared-slice-read-result
+    (λ c. search needs)
     returns
     returns-2
-    blocks-requires
-    mul-behind
-    sub-behind
+    (λ c κs. search needs)
+    (λ c. search needs)
+    (λ c. search needs)
     sub-behind-2
     returns-3
-    mul-result
-    mul-result-2
-    shr-result
-    cast-result
+    (λ c. search needs)
+    (λ c. search needs)
+    (λ c. search needs)
+    (λ c. search needs)
     returns-4)

@@ -9,33 +9,6 @@ use borrow.Author.Needs.{needs}
 use Rattle.sha1.proofs.rounds.compress.Statement.{statement}
 use Rattle.sha1.proofs.rounds.compress.Tie as tie
 
-rounds-0-requires : tie.Need-rounds-0-requires
-rounds-0-requires c κs = search needs
-
-rounds-20-requires : tie.Need-rounds-20-requires
-rounds-20-requires c κs = search needs
-
-rounds-40-requires : tie.Need-rounds-40-requires
-rounds-40-requires c κs = search needs
-
-rounds-60-requires : tie.Need-rounds-60-requires
-rounds-60-requires c κs = search needs
-
-wrapping-add-u32-requires : tie.Need-wrapping-add-u32-requires
-wrapping-add-u32-requires c κs = search needs
-
-wrapping-add-u32-requires-2 : tie.Need-wrapping-add-u32-requires-2
-wrapping-add-u32-requires-2 c κs = search needs
-
-wrapping-add-u32-requires-3 : tie.Need-wrapping-add-u32-requires-3
-wrapping-add-u32-requires-3 c κs = search needs
-
-wrapping-add-u32-requires-4 : tie.Need-wrapping-add-u32-requires-4
-wrapping-add-u32-requires-4 c κs = search needs
-
-wrapping-add-u32-requires-5 : tie.Need-wrapping-add-u32-requires-5
-wrapping-add-u32-requires-5 c κs = search needs
-
 sixteen : (c : tie.Start) → length (now (c .args .w)) ≡ 16
 sixteen c = c .pre
 
@@ -63,13 +36,13 @@ pub compress-spec : {M : Type 1} → statement M
 compress-spec =
     tie.close
     (tie.spec
-    rounds-0-requires
-    rounds-20-requires
-    rounds-40-requires
-    rounds-60-requires
-    wrapping-add-u32-requires
-    wrapping-add-u32-requires-2
-    wrapping-add-u32-requires-3
-    wrapping-add-u32-requires-4
-    wrapping-add-u32-requires-5
+    (λ c κs. search needs)
+    (λ c κs. search needs)
+    (λ c κs. search needs)
+    (λ c κs. search needs)
+    (λ c κs. search needs)
+    (λ c κs. search needs)
+    (λ c κs. search needs)
+    (λ c κs. search needs)
+    (λ c κs. search needs)
     returns)

@@ -16,21 +16,6 @@ abbrev μ-loop : tie.MeasureT-loop
 loop-holds : tie.Need-loop-holds Inv-loop μ-loop
 loop-holds c = ran-none _ _ 60
 
-scheduled-requires : tie.Need-scheduled-requires Inv-loop μ-loop
-scheduled-requires c κs = search needs
-
-parity-requires : tie.Need-parity-requires Inv-loop μ-loop
-parity-requires c κs = search needs
-
-round-requires : tie.Need-round-requires Inv-loop μ-loop
-round-requires c κs = search needs
-
-add-t : tie.Need-add-t Inv-loop μ-loop
-add-t c = search needs
-
-loop-less : tie.Need-loop-less Inv-loop μ-loop
-loop-less c = search needs
-
 loop-again : tie.Need-loop-again Inv-loop μ-loop
 loop-again c =
     ran-more (c .before .before .before .before .loop-test .taken) (c .before .before .before .before .before .loop .inv)
@@ -43,4 +28,14 @@ returns c = ran-all (c .loop-test .left) (c .before .loop .inv)
 pub rounds-60-spec : {M : Type 1} → statement M
 rounds-60-spec =
     tie.close
-    (tie.spec Inv-loop μ-loop loop-holds scheduled-requires parity-requires round-requires add-t loop-less loop-again returns)
+    (tie.spec
+    Inv-loop
+    μ-loop
+    loop-holds
+    (λ c κs. search needs)
+    (λ c κs. search needs)
+    (λ c κs. search needs)
+    (λ c. search needs)
+    (λ c. search needs)
+    loop-again
+    returns)

@@ -11,54 +11,6 @@ use borrow.Author.Needs.{needs}
 use Rattle.sha1.proofs.rounds.scheduled.Statement.{statement}
 use Rattle.sha1.proofs.rounds.scheduled.Tie as tie
 
-add-rotl : tie.Need-add-rotl
-add-rotl c = search needs
-
-mul-rotl : tie.Need-mul-rotl
-mul-rotl c = search needs
-
-element-copy-out-rotl : tie.Need-element-copy-out-rotl
-element-copy-out-rotl c = search needs
-
-add-rotl-2 : tie.Need-add-rotl-2
-add-rotl-2 c = search needs
-
-mul-rotl-2 : tie.Need-mul-rotl-2
-mul-rotl-2 c = search needs
-
-element-copy-out-rotl-2 : tie.Need-element-copy-out-rotl-2
-element-copy-out-rotl-2 c = search needs
-
-add-rotl-3 : tie.Need-add-rotl-3
-add-rotl-3 c = search needs
-
-mul-rotl-3 : tie.Need-mul-rotl-3
-mul-rotl-3 c = search needs
-
-element-copy-out-rotl-3 : tie.Need-element-copy-out-rotl-3
-element-copy-out-rotl-3 c = search needs
-
-mul-rotl-4 : tie.Need-mul-rotl-4
-mul-rotl-4 c = search needs
-
-element-copy-out-rotl-4 : tie.Need-element-copy-out-rotl-4
-element-copy-out-rotl-4 c = search needs
-
-rotl-requires : tie.Need-rotl-requires
-rotl-requires c κs = search needs
-
-mul-w : tie.Need-mul-w
-mul-w c = search needs
-
-element-write-w : tie.Need-element-write-w
-element-write-w c = search needs
-
-mul-result : tie.Need-mul-result
-mul-result c = search needs
-
-element-copy-out-result : tie.Need-element-copy-out-result
-element-copy-out-result c = search needs
-
 joined : (c : tie.Joined1) → c .if1 .w ≡ slide (now (c .before .args .w)) (c .before .args .t)
 joined c =
     ⊎-elim
@@ -73,20 +25,20 @@ pub scheduled-spec : {M : Type 1} → statement M
 scheduled-spec =
     tie.close
     (tie.spec
-    add-rotl
-    mul-rotl
-    element-copy-out-rotl
-    add-rotl-2
-    mul-rotl-2
-    element-copy-out-rotl-2
-    add-rotl-3
-    mul-rotl-3
-    element-copy-out-rotl-3
-    mul-rotl-4
-    element-copy-out-rotl-4
-    rotl-requires
-    mul-w
-    element-write-w
-    mul-result
-    element-copy-out-result
+    (λ c. search needs)
+    (λ c. search needs)
+    (λ c. search needs)
+    (λ c. search needs)
+    (λ c. search needs)
+    (λ c. search needs)
+    (λ c. search needs)
+    (λ c. search needs)
+    (λ c. search needs)
+    (λ c. search needs)
+    (λ c. search needs)
+    (λ c κs. search needs)
+    (λ c. search needs)
+    (λ c. search needs)
+    (λ c. search needs)
+    (λ c. search needs)
     returns)

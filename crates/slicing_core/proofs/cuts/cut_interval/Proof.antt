@@ -15,24 +15,15 @@ returns-2 c =
     cutTo-tests _ _ (c .before .before .args .flag) _ false true _ _ _ (ne-eqb _ _ (c .before .if1 .left)) (le-leb _ _ (c .if2 .taken)) refl refl
     (refl, refl, refl, refl, refl)
 
-sub-t6 : tie.Need-sub-t6
-sub-t6 c = search needs
-
 returns-3 : tie.Need-returns-3
 returns-3 c =
     cutTo-tests _ _ (c .before .before .before .args .flag) _ false false true _ _ (ne-eqb _ _ (c .before .before .if1 .left))
     (lt-leb _ _ (c .before .if2 .left)) (c .if3 .taken) refl (refl, refl, refl, refl, refl)
 
-sub-t7 : tie.Need-sub-t7
-sub-t7 c = search needs
-
 returns-4 : tie.Need-returns-4
 returns-4 c =
     cutTo-tests _ _ _ _ false false false true _ (ne-eqb _ _ (c .before .before .before .if1 .left)) (lt-leb _ _ (c .before .before .if2 .left))
     (c .before .if3 .left) (c .if4 .taken) (refl, refl, refl, refl, refl)
-
-sub-t8 : tie.Need-sub-t8
-sub-t8 c = search needs
 
 returns-5 : tie.Need-returns-5
 returns-5 c =
@@ -41,4 +32,12 @@ returns-5 c =
 
 pub cut-interval-spec : {M : Type 1} → statement M
 cut-interval-spec =
-    tie.close (tie.spec returns returns-2 sub-t6 returns-3 sub-t7 returns-4 sub-t8 returns-5)
+    tie.close (tie.spec
+    returns
+    returns-2
+    (λ c. search needs)
+    returns-3
+    (λ c. search needs)
+    returns-4
+    (λ c. search needs)
+    returns-5)

@@ -18,39 +18,6 @@ abbrev μ-loop : tie.MeasureT-loop
 loop-holds : tie.Need-loop-holds Inv-loop μ-loop
 loop-holds c = (omega arith, filling-none _)
 
-mul-into : tie.Need-mul-into Inv-loop μ-loop
-mul-into c = search needs
-
-element-copy-out-into : tie.Need-element-copy-out-into Inv-loop μ-loop
-element-copy-out-into c = search needs
-
-mul-into-2 : tie.Need-mul-into-2 Inv-loop μ-loop
-mul-into-2 c = search needs
-
-array-write-into : tie.Need-array-write-into Inv-loop μ-loop
-array-write-into c = search needs
-
-add-into : tie.Need-add-into Inv-loop μ-loop
-add-into c = search needs
-
-mul-into-3 : tie.Need-mul-into-3 Inv-loop μ-loop
-mul-into-3 c = search needs
-
-element-copy-out-into-2 : tie.Need-element-copy-out-into-2 Inv-loop μ-loop
-element-copy-out-into-2 c = search needs
-
-mul-into-4 : tie.Need-mul-into-4 Inv-loop μ-loop
-mul-into-4 c = search needs
-
-array-write-into-2 : tie.Need-array-write-into-2 Inv-loop μ-loop
-array-write-into-2 c = search needs
-
-add-i : tie.Need-add-i Inv-loop μ-loop
-add-i c = search needs
-
-loop-less : tie.Need-loop-less Inv-loop μ-loop
-loop-less c = search needs
-
 loop-again : tie.Need-loop-again Inv-loop μ-loop
 loop-again c =
     let rows = c .before .before .before .args .rows .now in
@@ -74,16 +41,16 @@ delete-row-spec =
     Inv-loop
     μ-loop
     loop-holds
-    mul-into
-    element-copy-out-into
-    mul-into-2
-    array-write-into
-    add-into
-    mul-into-3
-    element-copy-out-into-2
-    mul-into-4
-    array-write-into-2
-    add-i
-    loop-less
+    (λ c. search needs)
+    (λ c. search needs)
+    (λ c. search needs)
+    (λ c. search needs)
+    (λ c. search needs)
+    (λ c. search needs)
+    (λ c. search needs)
+    (λ c. search needs)
+    (λ c. search needs)
+    (λ c. search needs)
+    (λ c. search needs)
     loop-again
     returns)

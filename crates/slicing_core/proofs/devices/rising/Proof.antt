@@ -27,18 +27,6 @@ row c h = rising-row _ _ _ _ _ (c .loop-test .taken) (c .before .loop .inv .2 h)
 loop-holds : tie.Need-loop-holds Inv-loop μ-loop
 loop-holds c = (omega arith, simp sub-zero (λ h. h), simp sub-zero (λ h. h))
 
-mul-id : tie.Need-mul-id Inv-loop μ-loop
-mul-id c = search needs
-
-element-copy-out-id : tie.Need-element-copy-out-id Inv-loop μ-loop
-element-copy-out-id c = search needs
-
-mul-capacity : tie.Need-mul-capacity Inv-loop μ-loop
-mul-capacity c = search needs
-
-element-copy-out-capacity : tie.Need-element-copy-out-capacity Inv-loop μ-loop
-element-copy-out-capacity c = search needs
-
 returns : tie.Need-returns Inv-loop μ-loop
 returns c h = omega (arith, row (c .before .before .before) h .0 .above)
 
@@ -50,12 +38,6 @@ returns-3 c h = omega (arith, row (c .before .before .before .before .before) h 
 
 returns-4 : tie.Need-returns-4 Inv-loop μ-loop
 returns-4 c h = omega (arith, row (c .before .before .before .before .before .before) h .0 .most)
-
-add-i : tie.Need-add-i Inv-loop μ-loop
-add-i c = search needs
-
-loop-less : tie.Need-loop-less Inv-loop μ-loop
-loop-less c = search needs
 
 loop-again : tie.Need-loop-again Inv-loop μ-loop
 loop-again c =
@@ -83,15 +65,15 @@ rising-spec =
     Inv-loop
     μ-loop
     loop-holds
-    mul-id
-    element-copy-out-id
-    mul-capacity
-    element-copy-out-capacity
+    (λ c. search needs)
+    (λ c. search needs)
+    (λ c. search needs)
+    (λ c. search needs)
     returns
     returns-2
     returns-3
     returns-4
-    add-i
-    loop-less
+    (λ c. search needs)
+    (λ c. search needs)
     loop-again
     returns-5)

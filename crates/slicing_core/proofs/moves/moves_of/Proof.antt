@@ -14,50 +14,8 @@ Inv-loop sizes labels n starts₀ into₀ turns₀ count₀ points₀ start₀ i
 abbrev μ-loop : tie.MeasureT-loop
 μ-loop sizes labels n starts₀ into₀ turns₀ count₀ points₀ start₀ i₀ starts into turns count points start i = n - i
 
-empty-requires : tie.Need-empty-requires Inv-loop μ-loop
-empty-requires c κs = search needs
-
-empty-requires-2 : tie.Need-empty-requires-2 Inv-loop μ-loop
-empty-requires-2 c κs = search needs
-
-empty-requires-3 : tie.Need-empty-requires-3 Inv-loop μ-loop
-empty-requires-3 c κs = search needs
-
 loop-holds : tie.Need-loop-holds Inv-loop μ-loop
 loop-holds c = moved-none _ _ _ _ _ _ (omega arith) (omega arith) (omega arith)
-
-mul-size : tie.Need-mul-size Inv-loop μ-loop
-mul-size c = omega arith
-
-element-copy-out-size : tie.Need-element-copy-out-size Inv-loop μ-loop
-element-copy-out-size c = omega arith
-
-mul-label : tie.Need-mul-label Inv-loop μ-loop
-mul-label c = omega arith
-
-element-copy-out-label : tie.Need-element-copy-out-label Inv-loop μ-loop
-element-copy-out-label c = omega arith
-
-mul-starts : tie.Need-mul-starts Inv-loop μ-loop
-mul-starts c = omega arith
-
-array-write-starts : tie.Need-array-write-starts Inv-loop μ-loop
-array-write-starts c = omega arith
-
-mul-into : tie.Need-mul-into Inv-loop μ-loop
-mul-into c = omega arith
-
-array-write-into : tie.Need-array-write-into Inv-loop μ-loop
-array-write-into c = omega arith
-
-mul-turns : tie.Need-mul-turns Inv-loop μ-loop
-mul-turns c = omega arith
-
-array-write-turns : tie.Need-array-write-turns Inv-loop μ-loop
-array-write-turns c = omega arith
-
-add-count : tie.Need-add-count Inv-loop μ-loop
-add-count c = omega arith
 
 add-points : tie.Need-add-points Inv-loop μ-loop
 add-points c =
@@ -66,12 +24,6 @@ add-points c =
 add-start : tie.Need-add-start Inv-loop μ-loop
 add-start c =
     omega (arith, moved-total _ _ _ _ _ _ _ _ _ _ (c .before .before .before .before .loop .inv) (c .before .before .before .loop-test .taken))
-
-add-i : tie.Need-add-i Inv-loop μ-loop
-add-i c = omega arith
-
-loop-less : tie.Need-loop-less Inv-loop μ-loop
-loop-less c = omega arith
 
 loop-again : tie.Need-loop-again Inv-loop μ-loop
 loop-again c =
@@ -94,24 +46,24 @@ moves-of-spec =
     (tie.spec
     Inv-loop
     μ-loop
-    empty-requires
-    empty-requires-2
-    empty-requires-3
+    (λ c κs. search needs)
+    (λ c κs. search needs)
+    (λ c κs. search needs)
     loop-holds
-    mul-size
-    element-copy-out-size
-    mul-label
-    element-copy-out-label
-    mul-starts
-    array-write-starts
-    mul-into
-    array-write-into
-    mul-turns
-    array-write-turns
-    add-count
+    (λ c. omega arith)
+    (λ c. omega arith)
+    (λ c. omega arith)
+    (λ c. omega arith)
+    (λ c. omega arith)
+    (λ c. omega arith)
+    (λ c. omega arith)
+    (λ c. omega arith)
+    (λ c. omega arith)
+    (λ c. omega arith)
+    (λ c. omega arith)
     add-points
     add-start
-    add-i
-    loop-less
+    (λ c. omega arith)
+    (λ c. omega arith)
     loop-again
     returns)

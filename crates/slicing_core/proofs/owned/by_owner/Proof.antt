@@ -16,12 +16,6 @@ abbrev μ-loop : tie.MeasureT-loop
 loop-holds : tie.Need-loop-holds Inv-loop μ-loop
 loop-holds c = tallied-none _ _ _ _ (c .pre .1 .0) (c .pre .1 .1)
 
-mul-place : tie.Need-mul-place Inv-loop μ-loop
-mul-place c = omega arith
-
-element-copy-out-place : tie.Need-element-copy-out-place Inv-loop μ-loop
-element-copy-out-place c = omega arith
-
 place-below : (c : tie.After-place Inv-loop μ-loop)
     → at (c .before .before .before .args .owners .now) (c .before .before .loop .i) < 65536
 place-below c = c .before .before .before .pre .0 .1 (c .before .before .loop .i) (c .before .loop-test .taken)
@@ -31,12 +25,6 @@ mul-points c = omega (arith, place-below c)
 
 element-copy-out-points : tie.Need-element-copy-out-points Inv-loop μ-loop
 element-copy-out-points c = place-below c
-
-mul-points-2 : tie.Need-mul-points-2 Inv-loop μ-loop
-mul-points-2 c = omega arith
-
-element-copy-out-points-2 : tie.Need-element-copy-out-points-2 Inv-loop μ-loop
-element-copy-out-points-2 c = omega arith
 
 add-points : tie.Need-add-points Inv-loop μ-loop
 add-points c =
@@ -48,12 +36,6 @@ mul-points-3 c = omega (arith, place-below (c .before .before))
 
 element-write-points : tie.Need-element-write-points Inv-loop μ-loop
 element-write-points c = place-below (c .before .before)
-
-add-i : tie.Need-add-i Inv-loop μ-loop
-add-i c = omega arith
-
-loop-less : tie.Need-loop-less Inv-loop μ-loop
-loop-less c = omega arith
 
 loop-again : tie.Need-loop-again Inv-loop μ-loop
 loop-again c =
@@ -69,16 +51,16 @@ by-owner-spec =
     Inv-loop
     μ-loop
     loop-holds
-    mul-place
-    element-copy-out-place
+    (λ c. omega arith)
+    (λ c. omega arith)
     mul-points
     element-copy-out-points
-    mul-points-2
-    element-copy-out-points-2
+    (λ c. omega arith)
+    (λ c. omega arith)
     add-points
     mul-points-3
     element-write-points
-    add-i
-    loop-less
+    (λ c. omega arith)
+    (λ c. omega arith)
     loop-again
     returns)

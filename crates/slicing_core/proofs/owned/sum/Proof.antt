@@ -19,22 +19,10 @@ abbrev μ-loop : tie.MeasureT-loop
 loop-holds : tie.Need-loop-holds Inv-loop μ-loop
 loop-holds c = (omega arith, omega arith, rw sub-zero (omega arith))
 
-mul-points : tie.Need-mul-points Inv-loop μ-loop
-mul-points c = omega arith
-
-element-copy-out-points : tie.Need-element-copy-out-points Inv-loop μ-loop
-element-copy-out-points c = omega arith
-
 add-points : tie.Need-add-points Inv-loop μ-loop
 add-points c =
     let turn = c .before .before .loop in
     omega (arith, c .before .before .before .pre .1 (turn .i) (c .before .loop-test .taken))
-
-add-i : tie.Need-add-i Inv-loop μ-loop
-add-i c = omega arith
-
-loop-less : tie.Need-loop-less Inv-loop μ-loop
-loop-less c = omega arith
 
 loop-again : tie.Need-loop-again Inv-loop μ-loop
 loop-again c =
@@ -57,10 +45,10 @@ sum-spec =
     Inv-loop
     μ-loop
     loop-holds
-    mul-points
-    element-copy-out-points
+    (λ c. omega arith)
+    (λ c. omega arith)
     add-points
-    add-i
-    loop-less
+    (λ c. omega arith)
+    (λ c. omega arith)
     loop-again
     returns)

@@ -22,12 +22,6 @@ abbrev μ-loop : tie.MeasureT-loop
 loop-holds : tie.Need-loop-holds Inv-loop μ-loop
 loop-holds c = (omega arith, quoted-none _ _ _ _ (c .pre .3) (length-replicate {A = ℕ} 256 0) (at-zeros 256))
 
-mul-place : tie.Need-mul-place Inv-loop μ-loop
-mul-place c = omega arith
-
-element-copy-out-place : tie.Need-element-copy-out-place Inv-loop μ-loop
-element-copy-out-place c = omega arith
-
 place-below : (c : tie.After-place Inv-loop μ-loop)
     → at (c .before .before .before .args .ids .now) (c .before .before .loop .i) < 65536
 place-below c = c .before .before .before .pre .1 (c .before .before .loop .i) (c .before .loop-test .taken)
@@ -37,15 +31,6 @@ mul-has c = omega (arith, place-below c)
 
 element-copy-out-has : tie.Need-element-copy-out-has Inv-loop μ-loop
 element-copy-out-has c = place-below c
-
-mul-share : tie.Need-mul-share Inv-loop μ-loop
-mul-share c = omega arith
-
-element-copy-out-share : tie.Need-element-copy-out-share Inv-loop μ-loop
-element-copy-out-share c = omega arith
-
-sub-points : tie.Need-sub-points Inv-loop μ-loop
-sub-points c = omega arith
 
 mul-points : tie.Need-mul-points Inv-loop μ-loop
 mul-points c = omega (arith, place-below (c .before .before .before))
@@ -58,18 +43,6 @@ mul-points-2 c = omega (arith, place-below (c .before .before .before))
 
 element-write-points-2 : tie.Need-element-write-points-2 Inv-loop μ-loop
 element-write-points-2 c = place-below (c .before .before .before)
-
-mul-needs : tie.Need-mul-needs Inv-loop μ-loop
-mul-needs c = omega arith
-
-array-write-needs : tie.Need-array-write-needs Inv-loop μ-loop
-array-write-needs c = omega arith
-
-add-i : tie.Need-add-i Inv-loop μ-loop
-add-i c = omega arith
-
-loop-less : tie.Need-loop-less Inv-loop μ-loop
-loop-less c = omega arith
 
 loop-again : tie.Need-loop-again Inv-loop μ-loop
 loop-again c =
@@ -105,20 +78,20 @@ quotas-spec =
     Inv-loop
     μ-loop
     loop-holds
-    mul-place
-    element-copy-out-place
+    (λ c. omega arith)
+    (λ c. omega arith)
     mul-has
     element-copy-out-has
-    mul-share
-    element-copy-out-share
-    sub-points
+    (λ c. omega arith)
+    (λ c. omega arith)
+    (λ c. omega arith)
     mul-points
     element-write-points
     mul-points-2
     element-write-points-2
-    mul-needs
-    array-write-needs
-    add-i
-    loop-less
+    (λ c. omega arith)
+    (λ c. omega arith)
+    (λ c. omega arith)
+    (λ c. omega arith)
     loop-again
     returns)

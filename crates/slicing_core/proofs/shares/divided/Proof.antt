@@ -38,46 +38,13 @@ most c = floors-most _ _ (c .args .ids .now) (c .args .capacities .now) (c .args
 loop-holds : tie.Need-loop-holds Inv-loop μ-loop
 loop-holds c = (omega arith, filling-none _, filling-none _, simp (zero-add, sub-zero))
 
-mul-product : tie.Need-mul-product Inv-loop μ-loop
-mul-product c = search needs
-
-element-copy-out-product : tie.Need-element-copy-out-product Inv-loop μ-loop
-element-copy-out-product c = search needs
-
 mul-product-2 : tie.Need-mul-product-2 Inv-loop μ-loop
 mul-product-2 c =
     let pre = c .before .before .before .pre .0 in
     omega (arith, product-most (pre .1) (pre .2 (c .before .before .loop .i) (c .before .loop-test .taken)))
 
-div-floors : tie.Need-div-floors Inv-loop μ-loop
-div-floors c = search needs
-
-mul-floors : tie.Need-mul-floors Inv-loop μ-loop
-mul-floors c = search needs
-
-array-write-floors : tie.Need-array-write-floors Inv-loop μ-loop
-array-write-floors c = search needs
-
-rem-remainders : tie.Need-rem-remainders Inv-loop μ-loop
-rem-remainders c = search needs
-
-mul-remainders : tie.Need-mul-remainders Inv-loop μ-loop
-mul-remainders c = search needs
-
-array-write-remainders : tie.Need-array-write-remainders Inv-loop μ-loop
-array-write-remainders c = search needs
-
-div-given : tie.Need-div-given Inv-loop μ-loop
-div-given c = search needs
-
 add-given : tie.Need-add-given Inv-loop μ-loop
 add-given c = omega (arith, step (c .before), most (c .before .before .before))
-
-add-i : tie.Need-add-i Inv-loop μ-loop
-add-i c = search needs
-
-loop-less : tie.Need-loop-less Inv-loop μ-loop
-loop-less c = search needs
 
 loop-again : tie.Need-loop-again Inv-loop μ-loop
 loop-again c =
@@ -107,19 +74,19 @@ divided-spec =
     Inv-loop
     μ-loop
     loop-holds
-    mul-product
-    element-copy-out-product
+    (λ c. search needs)
+    (λ c. search needs)
     mul-product-2
-    div-floors
-    mul-floors
-    array-write-floors
-    rem-remainders
-    mul-remainders
-    array-write-remainders
-    div-given
+    (λ c. search needs)
+    (λ c. search needs)
+    (λ c. search needs)
+    (λ c. search needs)
+    (λ c. search needs)
+    (λ c. search needs)
+    (λ c. search needs)
     add-given
-    add-i
-    loop-less
+    (λ c. search needs)
+    (λ c. search needs)
     loop-again
     sub-t22
     returns)

@@ -18,23 +18,8 @@ Inv-loop range ids capacities n c floors remainders leftover into₀ i₀ into i
 abbrev μ-loop : tie.MeasureT-loop
 μ-loop range ids capacities n c floors remainders leftover into₀ i₀ into i = n - i
 
-sum-requires : tie.Need-sum-requires Inv-loop μ-loop
-sum-requires c κs = search needs
-
-divided-requires : tie.Need-divided-requires Inv-loop μ-loop
-divided-requires c κs = search needs
-
 loop-holds : tie.Need-loop-holds Inv-loop μ-loop
 loop-holds c = (omega arith, filling-none _)
-
-rank-requires : tie.Need-rank-requires Inv-loop μ-loop
-rank-requires c κs = search needs
-
-mul-into : tie.Need-mul-into Inv-loop μ-loop
-mul-into c = search needs
-
-array-read-into : tie.Need-array-read-into Inv-loop μ-loop
-array-read-into c = search needs
 
 add-into : tie.Need-add-into Inv-loop μ-loop
 add-into c =
@@ -42,30 +27,6 @@ add-into c =
     let i = c .before .before .before .before .loop .i in
     let l = c .before .before .before .loop-test .taken in
     omega (arith, floor-most (c .before .before .before .before .before .before .before .divided .ensures) i l (pre .1) (pre .2 i l))
-
-mul-into-2 : tie.Need-mul-into-2 Inv-loop μ-loop
-mul-into-2 c = search needs
-
-array-write-into : tie.Need-array-write-into Inv-loop μ-loop
-array-write-into c = search needs
-
-mul-into-3 : tie.Need-mul-into-3 Inv-loop μ-loop
-mul-into-3 c = search needs
-
-array-read-into-2 : tie.Need-array-read-into-2 Inv-loop μ-loop
-array-read-into-2 c = search needs
-
-mul-into-4 : tie.Need-mul-into-4 Inv-loop μ-loop
-mul-into-4 c = search needs
-
-array-write-into-2 : tie.Need-array-write-into-2 Inv-loop μ-loop
-array-write-into-2 c = search needs
-
-add-i : tie.Need-add-i Inv-loop μ-loop
-add-i c = search needs
-
-loop-less : tie.Need-loop-less Inv-loop μ-loop
-loop-less c = search needs
 
 loop-again : tie.Need-loop-again Inv-loop μ-loop
 loop-again c =
@@ -93,20 +54,20 @@ shares-spec =
     (tie.spec
     Inv-loop
     μ-loop
-    sum-requires
-    divided-requires
+    (λ c κs. search needs)
+    (λ c κs. search needs)
     loop-holds
-    rank-requires
-    mul-into
-    array-read-into
+    (λ c κs. search needs)
+    (λ c. search needs)
+    (λ c. search needs)
     add-into
-    mul-into-2
-    array-write-into
-    mul-into-3
-    array-read-into-2
-    mul-into-4
-    array-write-into-2
-    add-i
-    loop-less
+    (λ c. search needs)
+    (λ c. search needs)
+    (λ c. search needs)
+    (λ c. search needs)
+    (λ c. search needs)
+    (λ c. search needs)
+    (λ c. search needs)
+    (λ c. search needs)
     loop-again
     returns)

@@ -13,26 +13,8 @@ Inv-loop sizes labels n into₀ owners₀ count₀ i₀ into owners count i = Jo
 abbrev μ-loop : tie.MeasureT-loop
 μ-loop sizes labels n into₀ owners₀ count₀ i₀ into owners count i = n - i
 
-empty-requires : tie.Need-empty-requires Inv-loop μ-loop
-empty-requires c κs = search needs
-
-empty-requires-2 : tie.Need-empty-requires-2 Inv-loop μ-loop
-empty-requires-2 c κs = search needs
-
 loop-holds : tie.Need-loop-holds Inv-loop μ-loop
 loop-holds c = joined-none _ _ _ _ _ (omega arith) (omega arith)
-
-mul-push : tie.Need-mul-push Inv-loop μ-loop
-mul-push c = omega arith
-
-element-copy-out-push : tie.Need-element-copy-out-push Inv-loop μ-loop
-element-copy-out-push c = omega arith
-
-mul-push-2 : tie.Need-mul-push-2 Inv-loop μ-loop
-mul-push-2 c = omega arith
-
-element-copy-out-push-2 : tie.Need-element-copy-out-push-2 Inv-loop μ-loop
-element-copy-out-push-2 c = omega arith
 
 push-requires : tie.Need-push-requires Inv-loop μ-loop
 push-requires c κs =
@@ -40,12 +22,6 @@ push-requires c κs =
     let h = c .before .before .before .before .loop-test .taken in
     let pre = c .before .before .before .before .before .before .before .before .pre in
     (joined-held _ _ _ _ _ _ _ (turn .inv) h (pre .0), omega (arith, joined-total _ _ _ _ _ _ _ (turn .inv) h, pre .1))
-
-add-i : tie.Need-add-i Inv-loop μ-loop
-add-i c = omega arith
-
-loop-less : tie.Need-loop-less Inv-loop μ-loop
-loop-less c = omega arith
 
 loop-again : tie.Need-loop-again Inv-loop μ-loop
 loop-again c =
@@ -63,15 +39,15 @@ new-table-spec =
     (tie.spec
     Inv-loop
     μ-loop
-    empty-requires
-    empty-requires-2
+    (λ c κs. search needs)
+    (λ c κs. search needs)
     loop-holds
-    mul-push
-    element-copy-out-push
-    mul-push-2
-    element-copy-out-push-2
+    (λ c. omega arith)
+    (λ c. omega arith)
+    (λ c. omega arith)
+    (λ c. omega arith)
     push-requires
-    add-i
-    loop-less
+    (λ c. omega arith)
+    (λ c. omega arith)
     loop-again
     returns)

@@ -35,9 +35,6 @@ mul-need c = omega (arith, in-need c)
 element-copy-out-need : tie.Need-element-copy-out-need Inv-loop μ-loop
 element-copy-out-need c = omega (arith, in-need c)
 
-mul-push : tie.Need-mul-push Inv-loop μ-loop
-mul-push c = search needs
-
 mul-push-2 : tie.Need-mul-push-2 Inv-loop μ-loop
 mul-push-2 c = mul-need (c .before .before .before .before)
 
@@ -77,9 +74,6 @@ loop-again c =
       omega arith,
     )
 
-mul-push-3 : tie.Need-mul-push-3 Inv-loop μ-loop
-mul-push-3 c = search needs
-
 mul-push-4 : tie.Need-mul-push-4 Inv-loop μ-loop
 mul-push-4 c = mul-need (c .before .before .before .before)
 
@@ -98,17 +92,11 @@ push-requires-2 c κs =
     let start = turn .before .before in
     filling-push _ _ _ _ _ _ _ _ _ _ (rw (from-first start) (start .pre .0)) (start .pre .1 .1 .1) (turn .before .loop .inv .0) (turn .loop-test .taken) (omega arith)
 
-sub-needs : tie.Need-sub-needs Inv-loop μ-loop
-sub-needs c = omega arith
-
 mul-needs-2 : tie.Need-mul-needs-2 Inv-loop μ-loop
 mul-needs-2 c = mul-need (c .before .before .before .before .before .before)
 
 element-write-needs-2 : tie.Need-element-write-needs-2 Inv-loop μ-loop
 element-write-needs-2 c = element-copy-out-need (c .before .before .before .before .before .before)
-
-loop-less-2 : tie.Need-loop-less-2 Inv-loop μ-loop
-loop-less-2 c = omega arith
 
 loop-again-2 : tie.Need-loop-again-2 Inv-loop μ-loop
 loop-again-2 c =
@@ -131,7 +119,7 @@ fill-gap-spec =
     sub-row
     mul-need
     element-copy-out-need
-    mul-push
+    (λ c. search needs)
     mul-push-2
     element-copy-out-push
     add-push
@@ -141,14 +129,14 @@ fill-gap-spec =
     sub-rest
     loop-less
     loop-again
-    mul-push-3
+    (λ c. search needs)
     mul-push-4
     element-copy-out-push-2
     add-push-2
     push-requires-2
-    sub-needs
+    (λ c. omega arith)
     mul-needs-2
     element-write-needs-2
-    loop-less-2
+    (λ c. omega arith)
     loop-again-2
     returns)

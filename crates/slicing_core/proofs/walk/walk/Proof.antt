@@ -27,12 +27,6 @@ abbrev μ-loop : tie.MeasureT-loop
 owner-below : (c : tie.In-loop Inv-loop μ-loop) → at (c .before .before .before .before .args .owners .now) (c .before .loop .i) < 65536
 owner-below c = c .before .before .before .before .pre .0 .2 (c .before .loop .i) (c .loop-test .taken)
 
-empty-requires : tie.Need-empty-requires Inv-loop μ-loop
-empty-requires c κs = search needs
-
-empty-requires-2 : tie.Need-empty-requires-2 Inv-loop μ-loop
-empty-requires-2 c κs = search needs
-
 loop-holds : tie.Need-loop-holds Inv-loop μ-loop
 loop-holds c =
     let pre = c .before .before .pre in (
@@ -42,26 +36,11 @@ loop-holds c =
       omega arith,
     )
 
-mul-owner : tie.Need-mul-owner Inv-loop μ-loop
-mul-owner c = omega arith
-
-element-copy-out-owner : tie.Need-element-copy-out-owner Inv-loop μ-loop
-element-copy-out-owner c = omega arith
-
 mul-cut-interval : tie.Need-mul-cut-interval Inv-loop μ-loop
 mul-cut-interval c = omega (arith, owner-below (c .before))
 
 element-copy-out-cut-interval : tie.Need-element-copy-out-cut-interval Inv-loop μ-loop
 element-copy-out-cut-interval c = omega (arith, owner-below (c .before))
-
-mul-cut-interval-2 : tie.Need-mul-cut-interval-2 Inv-loop μ-loop
-mul-cut-interval-2 c = omega arith
-
-element-copy-out-cut-interval-2 : tie.Need-element-copy-out-cut-interval-2 Inv-loop μ-loop
-element-copy-out-cut-interval-2 c = omega arith
-
-cut-interval-requires : tie.Need-cut-interval-requires Inv-loop μ-loop
-cut-interval-requires c κs = search needs
 
 mul-release : tie.Need-mul-release Inv-loop μ-loop
 mul-release c = omega (arith, owner-below (c .before .before .before .before))
@@ -126,9 +105,6 @@ add-i c =
     let turn = c .before .before .before .before .before .before .before .before .before .before .before .before .before .before .before .before in
     omega (arith, turn .loop-test .taken, turn .before .before .before .before .pre .0 .0)
 
-loop-less : tie.Need-loop-less Inv-loop μ-loop
-loop-less c = omega arith
-
 loop-again : tie.Need-loop-again Inv-loop μ-loop
 loop-again c =
     let front = c .before .before .before .before .before .before .before in
@@ -151,16 +127,16 @@ walk-spec =
     (tie.spec
     Inv-loop
     μ-loop
-    empty-requires
-    empty-requires-2
+    (λ c κs. search needs)
+    (λ c κs. search needs)
     loop-holds
-    mul-owner
-    element-copy-out-owner
+    (λ c. omega arith)
+    (λ c. omega arith)
     mul-cut-interval
     element-copy-out-cut-interval
-    mul-cut-interval-2
-    element-copy-out-cut-interval-2
-    cut-interval-requires
+    (λ c. omega arith)
+    (λ c. omega arith)
+    (λ c κs. search needs)
     mul-release
     element-copy-out-release
     sub-release
@@ -174,6 +150,6 @@ walk-spec =
     add-push-2
     push-requires-2
     add-i
-    loop-less
+    (λ c. omega arith)
     loop-again
     returns)

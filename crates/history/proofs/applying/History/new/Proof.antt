@@ -7,11 +7,8 @@ use Rattle.history.proofs.AppliedLines.{fresh-inside}
 use Rattle.history.proofs.applying.History.new.Statement.{statement}
 use Rattle.history.proofs.applying.History.new.Tie as tie
 
-fresh-requires : tie.Need-fresh-requires
-fresh-requires c κs = search needs
-
 returns : tie.Need-returns
 returns c = ap {B = History} (λ p. record { begun = false; pool = p }) (fresh-inside 1 1 (c .before .fresh .result) refl (c .before .fresh .ensures))
 
 pub new-spec : {M : Type 1} → statement M
-new-spec = tie.close (tie.spec fresh-requires returns)
+new-spec = tie.close (tie.spec (λ c κs. search needs) returns)

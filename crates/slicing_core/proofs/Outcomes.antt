@@ -24,8 +24,8 @@ use Rattle.slicing.specs.Validity.{Valid}
 use Rattle.slicing.proofs.Devices.{insert-length, delete-length, update-length}
 use Rattle.slicing.proofs.Runs.{owners}
 use Rattle.slicing.proofs.ShareRule.{owners-shares}
 use Rattle.slicing_core.specs.Stages.{scratch}
-use Rattle.move_lists.proofs.MoveCounts.{length-moves}
+use Rattle.slicing_core.proofs.MoveCounts.{length-moves}
 
 pub record Alike (o p : Outcome) : Type 0 where
   pub number : o .number ≡ p .number
