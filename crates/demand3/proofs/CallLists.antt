@@ -2,7 +2,7 @@
 --
 --   seen-calls      the answers are the outcomes that demand 3 speaks of
 --   calls-valid     demand 3, and that, from a valid pool
-use mathlib.Core.Path.{_≡_, sym, subst}
+use mathlib.Core.Path.{sym, subst}
 use mathlib.Core.List.{List, [], _∷_, map}
 use Rattle.placement.specs.Pools.{stateOf, poolOf, ValidPool}
 use Rattle.placement.specs.declared.Pool.{Pool}

@@ -8,7 +8,7 @@ use mathlib.Core.List.{List, [], _∷_, map}
 use Rattle.placement.specs.Pools.{poolOf}
 use Rattle.placement.specs.declared.ChangeAnswer.{ChangeAnswer}
 use Rattle.placement.specs.declared.Pool.{Pool}
-use Rattle.slicing.specs.Changes.{State, Change, Outcome, change}
+use Rattle.slicing.specs.Changes.{State, Change, change}
 use Rattle.slicing.specs.Demand3.{Call}
 use Rattle.move_lists.specs.Promises.{moveOf, Answered, Changed}
 use Rattle.move_lists.specs.declared.Move.{Move}

@@ -2,7 +2,6 @@
 use crate::answers::put3;
 use images::WriteAnswer;
 use placement::Call;
-use placement::ChangeAnswer;
 use placement::Pool;
 ghost use mathlib.Core.Path.{_≡_};
 ghost use mathlib.Core.List.{_++_};

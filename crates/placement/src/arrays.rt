@@ -1,5 +1,4 @@
 // A pool's arrays as arrays of 64-bit numbers, and back.
-use crate::Pool;
 use slicing_core::runs::SCRATCH;
 ghost use mathlib.Core.Path.{_≡_};
 ghost use Prim.Native.Nat.{_≤_, _<_, _^_};

@@ -3,7 +3,7 @@ use mathlib.Core.Path.{sym}
 use native.Mathlib.Omega.{arith}
 use borrow.Author.Needs.{needs}
 use Rattle.placement.specs.Promises.{changeOf}
-use Rattle.gorvyts.proofs.MovedLists.{change-lent, change-back, change-room, after-valid, change-refused, change-unfit, change-done}
+use Rattle.gorvyts.proofs.MovedLists.{change-lent, change-back, change-room, change-refused, change-unfit, change-done}
 use Rattle.gorvyts.proofs.changes.change.Statement.{statement}
 use Rattle.gorvyts.proofs.changes.change.Tie as tie
 

@@ -1,7 +1,6 @@
 -- `placement::change::resize` meets its contract: each check is the rules' own, in their order, and so is the change to the devices with the capacity.
 use mathlib.Core.Path.{_≡_, sym, _∙_}
 use mathlib.Core.Bool.{true, false, _||_}
-use Prim.Native.Nat.{_<_}
 use native.Mathlib.Omega.{arith}
 use lib.ListN.{set}
 use borrow.Author.Needs.{needs}
