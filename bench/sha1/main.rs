@@ -55,6 +55,32 @@ mod rust {
         (x & y) ^ (x & z) ^ (y & z)
     }
 
+    fn logical(t: usize, x: u32, y: u32, z: u32) -> u32 {
+        if t < 20 {
+            return ch(x, y, z);
+        }
+        if t < 40 {
+            return parity(x, y, z);
+        }
+        if t < 60 {
+            return maj(x, y, z);
+        }
+        parity(x, y, z)
+    }
+
+    fn constant(t: usize) -> u32 {
+        if t < 20 {
+            return K0;
+        }
+        if t < 40 {
+            return K20;
+        }
+        if t < 60 {
+            return K40;
+        }
+        K60
+    }
+
     fn scheduled(w: &mut [u32; 16], t: usize) -> u32 {
         let s = t % 16;
         if t >= 16 {
@@ -74,55 +100,24 @@ mod rust {
         }
     }
 
-    fn rounds_0(w: &mut [u32; 16], start: Hash) -> Hash {
+    fn rounds(w: &mut [u32; 16], start: Hash, first: usize) -> Hash {
+        let k = constant(first);
+        let end = first + 20;
         let mut v = start;
-        let mut t = 0;
-        while t < 20 {
+        let mut t = first;
+        while t < end {
             let word = scheduled(w, t);
-            v = round(v, ch(v.b, v.c, v.d), K0, word);
-            t += 1;
-        }
-        v
-    }
-
-    fn rounds_20(w: &mut [u32; 16], start: Hash) -> Hash {
-        let mut v = start;
-        let mut t = 20;
-        while t < 40 {
-            let word = scheduled(w, t);
-            v = round(v, parity(v.b, v.c, v.d), K20, word);
-            t += 1;
-        }
-        v
-    }
-
-    fn rounds_40(w: &mut [u32; 16], start: Hash) -> Hash {
-        let mut v = start;
-        let mut t = 40;
-        while t < 60 {
-            let word = scheduled(w, t);
-            v = round(v, maj(v.b, v.c, v.d), K40, word);
-            t += 1;
-        }
-        v
-    }
-
-    fn rounds_60(w: &mut [u32; 16], start: Hash) -> Hash {
-        let mut v = start;
-        let mut t = 60;
-        while t < 80 {
-            let word = scheduled(w, t);
-            v = round(v, parity(v.b, v.c, v.d), K60, word);
+            v = round(v, logical(first, v.b, v.c, v.d), k, word);
             t += 1;
         }
         v
     }
 
     fn compress(h: Hash, w: &mut [u32; 16]) -> Hash {
-        let v0 = rounds_0(w, h);
-        let v20 = rounds_20(w, v0);
-        let v40 = rounds_40(w, v20);
-        let v = rounds_60(w, v40);
+        let v20 = rounds(w, h, 0);
+        let v40 = rounds(w, v20, 20);
+        let v60 = rounds(w, v40, 40);
+        let v = rounds(w, v60, 60);
         Hash {
             a: v.a.wrapping_add(h.a),
             b: v.b.wrapping_add(h.b),

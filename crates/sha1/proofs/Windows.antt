@@ -4,18 +4,19 @@
 --   window    window-add, length-window
 --   run       run-add
 --   Led       led-add
---   round     round-0, round-20, round-40, round-60
+--   round     round-first
 --   Ran       ran-none, ran-more, ran-all
-use mathlib.Core.Path.{_≡_, refl, ap, _∙_}
+use mathlib.Core.Path.{_≡_, refl, sym, ap, _∙_}
 use mathlib.Core.List.{List}
-use Prim.Native.Nat.{ℕ, zero, suc, _+_, _-_, _%_, _≤_, _<_}
+use Prim.Native.Nat.{ℕ, zero, suc, _+_, _*_, _-_, _%_, _≤_, _<_}
 use native.Mathlib.Nat.{add-zero, add-suc, add-assoc}
 use native.Mathlib.Decide.{decLt}
 use native.Mathlib.Omega.{arith}
+use lib.Dec.{ltb}
 use lib.ListN.{length, getD, set, length-set}
 use borrow.Author.Tests.{lt-ltb, le-ltb}
 use Rattle.sha1.specs.declared.Hash.{Hash}
-use Rattle.sha1.specs.Fips180.{_⊞_, ROTL, Ch, Parity, Maj, f, K, round}
+use Rattle.sha1.specs.Fips180.{_⊞_, ROTL, f, K, round}
 use Rattle.sha1.specs.Sixteen.{mixed, slide, window, run}
 
 pub slide-early : (W : List ℕ) (t : ℕ) → t < 16 → slide W t ≡ W
@@ -61,22 +62,18 @@ led-add W start t m n p q =
 abbrev pub turned : Hash → ℕ → ℕ → ℕ → Hash
 turned v x k word = record { a = ROTL 5 (v .a) ⊞ x ⊞ v .e ⊞ k ⊞ word; b = v .a; c = ROTL 30 (v .b); d = v .c; e = v .d }
 
-module _ (t word : ℕ) (v : Hash) {x : ℕ} where
-  pub round-0 : t < 20 → x ≡ Ch (v .b) (v .c) (v .d) → turned v x 0x5a827999 word ≡ round t word v
-  unfolding round f K
-  round-0 h e = rw (lt-ltb t 20 h, e)
+-- the rounds from t0 to t0 + 19 have one function and one constant
+module _ {t0 t : ℕ} (whole : t0 % 20 ≡ 0) (l : t0 ≤ t) (h : t < t0 + 20) where
+  same-side : (m : ℕ) → ltb t (20 * m) ≡ ltb t0 (20 * m)
+  same-side m =
+      elim (decLt t0 (20 * m)) [
+        | yes k ↦ lt-ltb t (20 * m) (omega arith) ∙ sym (lt-ltb t0 (20 * m) k)
+        | no k ↦ le-ltb t (20 * m) (omega arith) ∙ sym (le-ltb t0 (20 * m) (omega arith))
+      ]
 
-  pub round-20 : 20 ≤ t → t < 40 → x ≡ Parity (v .b) (v .c) (v .d) → turned v x 0x6ed9eba1 word ≡ round t word v
+  pub round-first : {x k : ℕ} (word : ℕ) (v : Hash) → x ≡ f t0 (v .b) (v .c) (v .d) → k ≡ K t0 → turned v x k word ≡ round t word v
   unfolding round f K
-  round-20 l h e = rw (le-ltb t 20 l, lt-ltb t 40 h, e)
-
-  pub round-40 : 40 ≤ t → t < 60 → x ≡ Maj (v .b) (v .c) (v .d) → turned v x 0x8f1bbcdc word ≡ round t word v
-  unfolding round f K
-  round-40 l h e = rw (le-ltb t 20 (omega arith), le-ltb t 40 l, lt-ltb t 60 h, e)
-
-  pub round-60 : 60 ≤ t → x ≡ Parity (v .b) (v .c) (v .d) → turned v x 0xca62c1d6 word ≡ round t word v
-  unfolding round f K
-  round-60 l e = rw (le-ltb t 20 (omega arith), le-ltb t 40 (omega arith), le-ltb t 60 l, e)
+  round-first word v e g = rw (same-side 1, same-side 2, same-side 3, e, g)
 
 -- what a loop of twenty rounds keeps: the rounds t0 to t - 1 have led from W and start to w and v
 pub record Ran (W : List ℕ) (start : Hash) (t0 t : ℕ) (w : List ℕ) (v : Hash) : Type 0 where

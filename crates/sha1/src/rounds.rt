@@ -1,9 +1,7 @@
-// One block: the sixteen-word schedule of section 6.1.3, its eighty rounds in four functions of
-// twenty, and the intermediate hash value.
+// One block: the sixteen-word schedule of section 6.1.3, its eighty rounds in four runs of twenty, and
+// the intermediate hash value.
 use crate::Hash;
-use crate::functions::ch;
-use crate::functions::maj;
-use crate::functions::parity;
+use crate::functions::logical;
 use crate::functions::rotl;
 use std::num::wrapping_add_u32;
 ghost use mathlib.Core.Path.{_≡_};
@@ -20,6 +18,22 @@ const K20: u32 = 0x6ed9eba1;
 const K40: u32 = 0x8f1bbcdc;
 
 const K60: u32 = 0xca62c1d6;
+
+// The constant of round t: section 4.2.1.
+fn constant(t: usize) -> u32
+    ensures { λ r. ⌜ r ≡ Fips.K t ⌝ }
+{
+    if t < 20 {
+        return K0;
+    }
+    if t < 40 {
+        return K20;
+    }
+    if t < 60 {
+        return K40;
+    }
+    K60
+}
 
 // The word of round t, once `w` has it.
 fn scheduled(w: &mut [u32; 16], t: usize) -> u32
@@ -51,57 +65,19 @@ fn round(v: Hash, f: u32, k: u32, word: u32) -> Hash
     }
 }
 
-fn rounds_0(w: &mut [u32; 16], start: Hash) -> Hash
-    ensures words { λ r. ⌜ now (w .exit) ≡ window (now (w .entry)) 0 20 ⌝ }
-    ensures variables { λ r. ⌜ r ≡ run (now (w .entry)) start 0 20 ⌝ }
+// The twenty rounds from `first` on, which have one function and one constant.
+fn rounds(w: &mut [u32; 16], start: Hash, first: usize) -> Hash
+    requires { ⌜ (first < 80) × (first % 20 ≡ 0) ⌝ }
+    ensures words { λ r. ⌜ now (w .exit) ≡ window (now (w .entry)) first 20 ⌝ }
+    ensures variables { λ r. ⌜ r ≡ run (now (w .entry)) start first 20 ⌝ }
 {
+    let k = constant(first);
+    let end = first + 20;
     let mut v = start;
-    let mut t = 0;
-    while t < 20 {
+    let mut t = first;
+    while t < end {
         let word = scheduled(&mut *w, t);
-        v = round(v, ch(v.b, v.c, v.d), K0, word);
-        t += 1;
-    }
-    v
-}
-
-fn rounds_20(w: &mut [u32; 16], start: Hash) -> Hash
-    ensures words { λ r. ⌜ now (w .exit) ≡ window (now (w .entry)) 20 20 ⌝ }
-    ensures variables { λ r. ⌜ r ≡ run (now (w .entry)) start 20 20 ⌝ }
-{
-    let mut v = start;
-    let mut t = 20;
-    while t < 40 {
-        let word = scheduled(&mut *w, t);
-        v = round(v, parity(v.b, v.c, v.d), K20, word);
-        t += 1;
-    }
-    v
-}
-
-fn rounds_40(w: &mut [u32; 16], start: Hash) -> Hash
-    ensures words { λ r. ⌜ now (w .exit) ≡ window (now (w .entry)) 40 20 ⌝ }
-    ensures variables { λ r. ⌜ r ≡ run (now (w .entry)) start 40 20 ⌝ }
-{
-    let mut v = start;
-    let mut t = 40;
-    while t < 60 {
-        let word = scheduled(&mut *w, t);
-        v = round(v, maj(v.b, v.c, v.d), K40, word);
-        t += 1;
-    }
-    v
-}
-
-fn rounds_60(w: &mut [u32; 16], start: Hash) -> Hash
-    ensures words { λ r. ⌜ now (w .exit) ≡ window (now (w .entry)) 60 20 ⌝ }
-    ensures variables { λ r. ⌜ r ≡ run (now (w .entry)) start 60 20 ⌝ }
-{
-    let mut v = start;
-    let mut t = 60;
-    while t < 80 {
-        let word = scheduled(&mut *w, t);
-        v = round(v, parity(v.b, v.c, v.d), K60, word);
+        v = round(v, logical(first, v.b, v.c, v.d), k, word);
         t += 1;
     }
     v
@@ -112,10 +88,10 @@ pub fn compress(h: Hash, w: &mut [u32; 16]) -> Hash
     requires { ⌜ length (now w) ≡ 16 ⌝ }
     ensures { λ r. ⌜ r ≡ Fips.compress h (now (w .entry)) ⌝ }
 {
-    let v0 = rounds_0(&mut *w, h);
-    let v20 = rounds_20(&mut *w, v0);
-    let v40 = rounds_40(&mut *w, v20);
-    let v = rounds_60(&mut *w, v40);
+    let v20 = rounds(&mut *w, h, 0);
+    let v40 = rounds(&mut *w, v20, 20);
+    let v60 = rounds(&mut *w, v40, 40);
+    let v = rounds(&mut *w, v60, 60);
     Hash {
         a: wrapping_add_u32(v.a, h.a),
         b: wrapping_add_u32(v.b, h.b),

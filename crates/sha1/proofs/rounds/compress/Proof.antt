@@ -12,12 +12,12 @@ use Rattle.sha1.proofs.rounds.compress.Tie as tie
 sixteen : (c : tie.Start) → length (now (c .args .w)) ≡ 16
 sixteen c = c .pre
 
-eighty : (c : tie.After-rounds-60) →
-    c .rounds-60 .result ≡ rounds (schedule (now (c .before .before .before .before .before .before .before .before .args .w)) 64)
+eighty : (c : tie.After-rounds4) →
+    c .rounds4 .result ≡ rounds (schedule (now (c .before .before .before .before .before .before .before .before .args .w)) 64)
     (c .before .before .before .before .before .before .before .before .args .h) 80
 eighty c =
-    led-add _ _ 0 60 20 (led-add _ _ 0 40 20 (led-add _ _ 0 20 20 (c .before .before .before .before .before .before .rounds-0 .ensures)
-    (c .before .before .before .before .rounds-20 .ensures)) (c .before .before .rounds-40 .ensures)) (c .rounds-60 .ensures) .1
+    led-add _ _ 0 60 20 (led-add _ _ 0 40 20 (led-add _ _ 0 20 20 (c .before .before .before .before .before .before .rounds .ensures)
+    (c .before .before .before .before .rounds2 .ensures)) (c .before .before .rounds3 .ensures)) (c .rounds4 .ensures) .1
     ∙ agree _ _ (sixteen (c .before .before .before .before .before .before .before .before))
 
 returns : tie.Need-returns
