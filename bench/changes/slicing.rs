@@ -50,54 +50,32 @@ struct Place {
     present: bool,
 }
 
+struct Opening {
+    ids: [u64; 256],
+    capacities: [u64; 256],
+    place: Place,
+}
+
 // The pool's arrays, widened and narrowed.
 
-fn wide_ids(xs: &[u16; 256]) -> [u64; 256] {
+fn widen<const N: usize>(ids: &[u16; N], values: &[u32; N]) -> ([u64; N], [u64; N]) {
+    let mut into = [0; N];
+    let mut beside = [0; N];
+    for i in 0..N {
+        into[i] = ids[i] as u64;
+        beside[i] = values[i] as u64;
+    }
+    (into, beside)
+}
+
+fn narrow(ids: &[u64; 256], values: &[u64; 256]) -> ([u16; 256], [u32; 256]) {
     let mut into = [0; 256];
+    let mut beside = [0; 256];
     for i in 0..256 {
-        into[i] = xs[i] as u64;
+        into[i] = ids[i] as u16;
+        beside[i] = values[i] as u32;
     }
-    into
-}
-
-fn wide_capacities(xs: &[u32; 256]) -> [u64; 256] {
-    let mut into = [0; 256];
-    for i in 0..256 {
-        into[i] = xs[i] as u64;
-    }
-    into
-}
-
-fn wide_starts(xs: &[u32; 4096]) -> [u64; 4096] {
-    let mut into = [0; 4096];
-    for i in 0..4096 {
-        into[i] = xs[i] as u64;
-    }
-    into
-}
-
-fn wide_owners(xs: &[u16; 4096]) -> [u64; 4096] {
-    let mut into = [0; 4096];
-    for i in 0..4096 {
-        into[i] = xs[i] as u64;
-    }
-    into
-}
-
-fn narrow_ids(xs: &[u64; 256]) -> [u16; 256] {
-    let mut into = [0; 256];
-    for i in 0..256 {
-        into[i] = xs[i] as u16;
-    }
-    into
-}
-
-fn narrow_capacities(xs: &[u64; 256]) -> [u32; 256] {
-    let mut into = [0; 256];
-    for i in 0..256 {
-        into[i] = xs[i] as u32;
-    }
-    into
+    (into, beside)
 }
 
 fn zeros_from(xs: &[u64], n: usize) -> bool {
@@ -316,10 +294,8 @@ fn valid(pool: &Pool) -> bool {
     }
     let n = pool.devices;
     let q = pool.intervals;
-    let ids = wide_ids(&pool.ids);
-    let capacities = wide_capacities(&pool.capacities);
-    let starts = wide_starts(&pool.starts);
-    let owners = wide_owners(&pool.owners);
+    let (ids, capacities) = widen(&pool.ids, &pool.capacities);
+    let (owners, starts) = widen(&pool.owners, &pool.starts);
     if !rising(&ids, &capacities, n) {
         return false;
     }
@@ -493,8 +469,7 @@ fn still() -> Moves {
 
 fn turns_of(pool: &Pool, n: usize, ids: &[u64; 256], capacities: &[u64; 256]) -> Runs {
     let q = pool.intervals;
-    let starts = wide_starts(&pool.starts);
-    let owners = wide_owners(&pool.owners);
+    let (owners, starts) = widen(&pool.owners, &pool.starts);
     let lengths = lengths_of(&starts, q, pool.range);
     let mut points = by_owner(&lengths, &owners, q);
     let due = shares(pool.range, ids, capacities, n);
@@ -503,12 +478,13 @@ fn turns_of(pool: &Pool, n: usize, ids: &[u64; 256], capacities: &[u64; 256]) ->
 }
 
 fn packed(pool: &Pool, n: usize, ids: &[u64; 256], capacities: &[u64; 256], table: &Runs) -> Pool {
+    let (ids, capacities) = narrow(ids, capacities);
     Pool {
         range: pool.range,
         limit: pool.limit,
         devices: n,
-        ids: narrow_ids(ids),
-        capacities: narrow_capacities(capacities),
+        ids,
+        capacities,
         intervals: table.count,
         starts: starts_of(&table.sizes, table.count),
         owners: owners_of(&table.labels, table.count),
@@ -578,6 +554,12 @@ fn find(ids: &[u64; 256], n: usize, id: u64) -> Place {
     Place { row, present: row < n && ids[row] == id }
 }
 
+fn opened(pool: &Pool, id: u64) -> Opening {
+    let (ids, capacities) = widen(&pool.ids, &pool.capacities);
+    let place = find(&ids, pool.devices, id);
+    Opening { ids, capacities, place }
+}
+
 fn first(pool: &Pool, id: u64, capacity: u64) -> ChangeAnswer {
     let mut next = *pool;
     next.devices = 1;
@@ -592,11 +574,9 @@ pub fn add(pool: &Pool, id: u64, capacity: u64, list: &mut [u64]) -> ChangeAnswe
     if !valid(pool) || outside(65535, id) || outside(1000000, capacity) {
         return refuse(pool, 2);
     }
+    let found = opened(pool, id);
     let n = pool.devices;
-    let ids = wide_ids(&pool.ids);
-    let capacities = wide_capacities(&pool.capacities);
-    let place = find(&ids, n, id);
-    if place.present {
+    if found.place.present {
         return refuse(pool, 4);
     }
     if n >= 256 {
@@ -605,8 +585,8 @@ pub fn add(pool: &Pool, id: u64, capacity: u64, list: &mut [u64]) -> ChangeAnswe
     if n == 0 {
         return first(pool, id, capacity);
     }
-    let next_ids = insert_row(&ids, place.row, id);
-    let next_capacities = insert_row(&capacities, place.row, capacity);
+    let next_ids = insert_row(&found.ids, found.place.row, id);
+    let next_capacities = insert_row(&found.capacities, found.place.row, capacity);
     carried(settle(pool, n + 1, &next_ids, &next_capacities, list.len() / 4), list)
 }
 
@@ -614,18 +594,16 @@ pub fn remove(pool: &Pool, id: u64, list: &mut [u64]) -> ChangeAnswer {
     if !valid(pool) || outside(65535, id) {
         return refuse(pool, 2);
     }
+    let found = opened(pool, id);
     let n = pool.devices;
-    let ids = wide_ids(&pool.ids);
-    let capacities = wide_capacities(&pool.capacities);
-    let place = find(&ids, n, id);
-    if !place.present {
+    if !found.place.present {
         return refuse(pool, 5);
     }
     if n <= 1 {
         return refuse(pool, 7);
     }
-    let next_ids = delete_row(&ids, place.row);
-    let next_capacities = delete_row(&capacities, place.row);
+    let next_ids = delete_row(&found.ids, found.place.row);
+    let next_capacities = delete_row(&found.capacities, found.place.row);
     carried(settle(pool, n - 1, &next_ids, &next_capacities, list.len() / 4), list)
 }
 
@@ -633,13 +611,11 @@ pub fn resize(pool: &Pool, id: u64, capacity: u64, list: &mut [u64]) -> ChangeAn
     if !valid(pool) || outside(65535, id) || outside(1000000, capacity) {
         return refuse(pool, 2);
     }
+    let mut found = opened(pool, id);
     let n = pool.devices;
-    let ids = wide_ids(&pool.ids);
-    let mut capacities = wide_capacities(&pool.capacities);
-    let place = find(&ids, n, id);
-    if !place.present {
+    if !found.place.present {
         return refuse(pool, 5);
     }
-    capacities[place.row] = capacity;
-    carried(settle(pool, n, &ids, &capacities, list.len() / 4), list)
+    found.capacities[found.place.row] = capacity;
+    carried(settle(pool, n, &found.ids, &found.capacities, list.len() / 4), list)
 }
