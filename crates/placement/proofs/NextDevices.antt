@@ -3,7 +3,7 @@
 --   Next es d c n     the arrays d and c hold the n devices es, and nothing else
 --
 -- limits: both-inside
--- Next: next-insert, next-delete, next-update, next-settle (what `settle::settle` asks)
+-- Next: next-insert, next-delete, next-update, next-ready (what `settle::settle` asks)
 use mathlib.Core.Path.{_≡_, refl, sym, ap, _∙_, subst}
 use mathlib.Core.Bool.{Bool, true, false, true≢false, _||_}
 use mathlib.Core.List.{List}
@@ -22,8 +22,8 @@ use Rattle.slicing_core.specs.Rows.{at, deviceRows}
 use Rattle.slicing_core.specs.Stages.{Position, Inserted, Deleted}
 use Rattle.slicing_core.proofs.DeviceRows.{position-present, insert-rows, delete-rows, update-rows}
 use Rattle.placement.specs.declared.Pool.{Pool}
-use Rattle.placement.specs.Pools.{stateOf, ValidPool, Zeros}
-use Rattle.placement.specs.Promises.{Opened}
+use Rattle.placement.specs.Pools.{stateOf, Zeros}
+use Rattle.placement.specs.Promises.{Opened, Ready}
 use Rattle.placement.proofs.OpenedPools.{opened-rows, opened-rising, opened-ascending, opened-ids, opened-capacities, cleared-ids, cleared-capacities}
 
 pub record Next (es : List Device) (d c : List ℕ) (n : ℕ) : Type 0 where
@@ -133,7 +133,15 @@ module _ {p : Pool} {d c : List ℕ} (o : Opened p d c) where
           update-rows d c capacity (l .0) (l .1) (opened-ascending o .1)
           (omega (arith, opened-capacities o, few, l .0))
 
-  pub next-settle : {es : List Device} {d' c' : List ℕ} {n : ℕ} → 1 ≤ p .devices → Next es d' c' n
-      → (ValidPool p × (1 ≤ p .devices) × (1 ≤ n) × (n ≤ 256) × Rising 0 (deviceRows d' c' 0 n))
-      × ((length d' ≡ 256) × (length c' ≡ 256) × Zeros d' n × Zeros c' n)
-  next-settle m x = ((o .valid, m, x .some, x .most, x .rising), (x .idsSize, x .capacitiesSize, x .noIds, x .noCapacities))
+  pub next-ready : {es : List Device} {d' c' : List ℕ} {n : ℕ} → 1 ≤ p .devices → Next es d' c' n → Ready p d' c' n
+  next-ready m x = record {
+    valid = o .valid;
+    had = m;
+    some = x .some;
+    most = x .most;
+    rising = x .rising;
+    idsSize = x .idsSize;
+    capacitiesSize = x .capacitiesSize;
+    noIds = x .noIds;
+    noCapacities = x .noCapacities;
+  }

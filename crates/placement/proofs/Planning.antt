@@ -1,10 +1,10 @@
 -- The plan of a change: what the rules' outcome asks of it.
 --
 -- planned-refused, planned-done (a plan from the outcome's case)
--- Planning: total-plan, table-plan, labels-plan; plan-eight, plan-nine, plan-done
+-- Ready: total-below (the points of the turns), table-fits, moves-plan; plan-eight, plan-nine, plan-done (the outcome)
 use mathlib.Core.Path.{_≡_, sym, ap, _∙_, subst}
 use mathlib.Core.List.{List}
-use Prim.Native.Nat.{ℕ, _%_, _≤_, _<_}
+use Prim.Native.Nat.{ℕ, _%_, _^_, _≤_, _<_}
 use native.Mathlib.Omega.{arith}
 use lib.Dec.{eqb}
 use lib.ListN.{length, drop}
@@ -12,7 +12,7 @@ use lib.Seq.{take-append-seam}
 use borrow.Author.Tests.{lt-ltb, le-ltb}
 use Rattle.slicing.specs.Changes.{refused, accepted, settle}
 use Rattle.slicing.specs.Demand3.{written}
-use Rattle.slicing.specs.Devices.{Device, Rising}
+use Rattle.slicing.specs.Devices.{Device}
 use Rattle.slicing.specs.Runs.{Run, total, relabel, coalesce, Coalesced}
 use Rattle.slicing.specs.ShareRule.{shares}
 use Rattle.slicing.specs.SixSteps.{Turn, sameTurn, turns, newTable, Move, movesFrom, moves, points}
@@ -20,15 +20,18 @@ use Rattle.slicing.proofs.Changes.{balanced}
 use Rattle.slicing.proofs.Runs.{coalesced-table, expand-table, length-expand, total-relabel}
 use Rattle.slicing.proofs.SixSteps.{total-turns}
 use Rattle.slicing_core.specs.Rows.{rows, deviceRows, moveRows, turnOf}
-use Rattle.slicing_core.specs.Stages.{scratch, Below}
+use Rattle.slicing_core.specs.Stages.{scratch}
+use Rattle.slicing_core.specs.declared.moves.Moves.{Moves}
+use Rattle.slicing_core.specs.declared.runs.Runs.{Runs}
 use Rattle.slicing_core.proofs.Rows.{length-deviceRows}
 use Rattle.slicing_core.proofs.Settled.{newTable-runs, moves-runs, total-runs}
 use Rattle.placement.specs.declared.Pool.{Pool}
 use Rattle.placement.specs.declared.settle.Plan.{Plan}
-use Rattle.placement.specs.Pools.{stateOf, poolOf, ValidPool}
-use Rattle.placement.specs.Promises.{Planned}
+use Rattle.placement.specs.Pools.{stateOf, poolOf}
+use Rattle.placement.specs.Promises.{Ready, Fits, Planned}
 use Rattle.placement.proofs.PaddedRows.{length-rows}
 use Rattle.placement.proofs.Turning.{Under, under-relabel, under-coalesce, below-under}
+use Rattle.placement.proofs.ValidParts.{valid-limited}
 use Rattle.placement.proofs.WrittenMoves.{length-moveRows}
 
 -- the rules refuse the change with one number, whatever the list of so many places
@@ -57,7 +60,7 @@ planned-done p es places r table ms er room em ep eq o = record {
   moves = λ lent l. em ∙ sym (take-append-seam ms (drop (length ms) lent)) ∙ sym (ap written (o lent l));
 }
 
-module _ (p : Pool) (v : ValidPool p) (h : 1 ≤ p .devices) (ids capacities : List ℕ) (n : ℕ) (r : Rising 0 (deviceRows ids capacities 0 n)) (m : 1 ≤ n) where
+module _ {p : Pool} {ids capacities : List ℕ} {n : ℕ} (o : Ready p ids capacities n) where
   abbrev es : List Device
   es = deviceRows ids capacities 0 n
 
@@ -68,55 +71,65 @@ module _ (p : Pool) (v : ValidPool p) (h : 1 ≤ p .devices) (ids capacities : L
   unfolding stateOf
   total-ts =
       total-turns (stateOf p .table) (shares (p .range) (stateOf p .devices)) (shares (p .range) es)
-      (balanced (stateOf p) (v .valid) some es r (omega (arith, length-deviceRows ids capacities 0 n)))
-      ∙ v .valid .covers some
+      (balanced (stateOf p) (o .valid .valid) some es (o .rising) (omega (arith, o .some, length-deviceRows ids capacities 0 n)))
+      ∙ o .valid .valid .covers some
     where
       some : 1 ≤ length (deviceRows (p .ids) (p .capacities) 0 (p .devices))
-      some = omega (arith, length-deviceRows (p .ids) (p .capacities) 0 (p .devices))
+      some = omega (arith, o .had, length-deviceRows (p .ids) (p .capacities) 0 (p .devices))
 
-  module _ (sizes labels : List ℕ) (k : ℕ) (t : relabel turnOf (rows sizes labels 0 k) ≡ coalesce sameTurn ts) where
-    pub total-plan : total (rows sizes labels 0 k) ≡ p .range
-    total-plan = total-runs ts (rows sizes labels 0 k) t ∙ total-ts
+  -- the turns u, the table b made of them, and their moves m
+  module _ (u : Runs) (t : relabel turnOf (rows (u .sizes) (u .labels) 0 (u .count)) ≡ coalesce sameTurn ts) where
+    abbrev us : List (Run ℕ)
+    us = rows (u .sizes) (u .labels) 0 (u .count)
 
-    module _ (into owners : List ℕ) (q : ℕ) (e : rows into owners 0 q ≡ coalesce eqb (relabel (λ x. x % 65536) (rows sizes labels 0 k))) where
-      pub table-plan : rows into owners 0 q ≡ newTable ts
-      table-plan = e ∙ newTable-runs ts (rows sizes labels 0 k) t
+    total-plan : total us ≡ p .range
+    total-plan = total-runs ts us t ∙ total-ts
 
-      pub labels-plan : Below 65536 owners q
-      labels-plan =
-          below-under 65536 into owners q
-          (subst (Under 65536) (sym e)
-          (under-coalesce 65536 (relabel (λ x. x % 65536) (rows sizes labels 0 k)) (under-relabel 65536 (λ x. x % 65536) (λ x. omega arith) (rows sizes labels 0 k))))
+    pub total-below : total us < 2 ^ 63
+    total-below = omega (arith, total-plan, valid-limited p (o .valid) .most)
 
-      pub coalesced-plan : Coalesced eqb (rows into owners 0 q)
-      coalesced-plan = subst (Coalesced eqb) (sym e) (coalesced-table (relabel (λ x. x % 65536) (rows sizes labels 0 k)))
+    module _ (b : Runs) (e : rows (b .sizes) (b .labels) 0 (b .count) ≡ coalesce eqb (relabel (λ x. x % 65536) us)) where
+      abbrev new : List (Run ℕ)
+      new = relabel (λ x. x % 65536) us
 
-      pub total-table : total (rows into owners 0 q) ≡ p .range
+      table-plan : rows (b .sizes) (b .labels) 0 (b .count) ≡ newTable ts
+      table-plan = e ∙ newTable-runs ts us t
+
+      total-table : total (rows (b .sizes) (b .labels) 0 (b .count)) ≡ p .range
       total-table =
-          ap total e ∙ sym (length-expand (coalesce eqb (relabel (λ x. x % 65536) (rows sizes labels 0 k))))
-          ∙ ap length (expand-table (relabel (λ x. x % 65536) (rows sizes labels 0 k)))
-          ∙ length-expand (relabel (λ x. x % 65536) (rows sizes labels 0 k)) ∙ total-relabel (λ x. x % 65536) (rows sizes labels 0 k) ∙ total-plan
+          ap total e ∙ sym (length-expand (coalesce eqb new)) ∙ ap length (expand-table new) ∙ length-expand new
+          ∙ total-relabel (λ x. x % 65536) us ∙ total-plan
 
-      count-table : length (newTable ts) ≡ q
-      count-table = ap length (sym table-plan) ∙ length-rows into owners 0 q
+      pub table-fits : b .count ≤ p .limit → Fits b
+      table-fits l = record {
+        few = omega (arith, valid-limited p (o .valid) .roomMost);
+        owners = below-under 65536 (b .sizes) (b .labels) (b .count)
+            (subst (Under 65536) (sym e) (under-coalesce 65536 new (under-relabel 65536 (λ x. x % 65536) (λ x. omega arith) us)));
+        most = omega (arith, total-table, valid-limited p (o .valid) .most);
+        coalesced = subst (Coalesced eqb) (sym e) (coalesced-table new);
+      }
 
-      pub plan-eight : p .limit < q → (lent : List Move) → settle (stateOf p) lent es ≡ refused (stateOf p) lent 8
+      count-table : length (newTable ts) ≡ b .count
+      count-table = ap length (sym table-plan) ∙ length-rows (b .sizes) (b .labels) 0 (b .count)
+
+      pub plan-eight : p .limit < b .count → (lent : List Move) → settle (stateOf p) lent es ≡ refused (stateOf p) lent 8
       unfolding stateOf
       plan-eight l lent = rw (lt-ltb (p .limit) (length (newTable ts)) (omega (arith, count-table)))
 
-      module _ (starts msizes mlabels : List ℕ) (c : ℕ) (f : moveRows starts msizes mlabels 0 c ≡ movesFrom 0 (relabel turnOf (rows sizes labels 0 k))) where
-        pub moves-plan : moveRows starts msizes mlabels 0 c ≡ moves ts
-        moves-plan = f ∙ moves-runs ts (rows sizes labels 0 k) t
+      module _ (m : Moves) (f : moveRows (m .starts) (m .sizes) (m .labels) 0 (m .count) ≡ movesFrom 0 (relabel turnOf us)) where
+        pub moves-plan : moveRows (m .starts) (m .sizes) (m .labels) 0 (m .count) ≡ moves ts
+        moves-plan = f ∙ moves-runs ts us t
 
-        count-moves : length (moves ts) ≡ c
-        count-moves = ap length (sym moves-plan) ∙ length-moveRows starts msizes mlabels 0 c
+        count-moves : length (moves ts) ≡ m .count
+        count-moves = ap length (sym moves-plan) ∙ length-moveRows (m .starts) (m .sizes) (m .labels) 0 (m .count)
 
-        pub plan-nine : q ≤ p .limit → (lent : List Move) → length lent < c → settle (stateOf p) lent es ≡ refused (stateOf p) lent 9
+        pub plan-nine : b .count ≤ p .limit → (lent : List Move) → length lent < m .count → settle (stateOf p) lent es ≡ refused (stateOf p) lent 9
         unfolding stateOf
         plan-nine l lent x =
             rw (le-ltb (p .limit) (length (newTable ts)) (omega (arith, count-table)), lt-ltb (length lent) (length (moves ts)) (omega (arith, count-moves)))
 
-        pub plan-done : q ≤ p .limit → (lent : List Move) → c ≤ length lent → settle (stateOf p) lent es ≡ accepted (stateOf p) lent es (rows into owners 0 q) (moves ts)
+        pub plan-done : b .count ≤ p .limit → (lent : List Move) → m .count ≤ length lent
+            → settle (stateOf p) lent es ≡ accepted (stateOf p) lent es (rows (b .sizes) (b .labels) 0 (b .count)) (moves ts)
         unfolding stateOf
         plan-done l lent x =
             rw (le-ltb (p .limit) (length (newTable ts)) (omega (arith, count-table)), le-ltb (length lent) (length (moves ts)) (omega (arith, count-moves)))

@@ -22,11 +22,10 @@ ghost use Rattle.slicing.specs.Changes as Changes;
 ghost use Rattle.slicing.specs.Devices as Devices;
 ghost use Rattle.slicing.specs.Limits as Limits;
 ghost use Rattle.slicing.specs.Runs.{_of_};
-ghost use Rattle.slicing.specs.Devices.{Rising};
 ghost use Rattle.slicing_core.specs.Rows.{at, deviceRows, moveRows};
 ghost use Rattle.slicing_core.specs.Stages.{scratch, Ascending, Decides, Position};
-ghost use Rattle.placement.specs.Pools.{poolOf, ValidPool, Zeros};
-ghost use Rattle.placement.specs.Promises.{Fresh, Changed, Shared, Opens, Settled, changeOf, flat};
+ghost use Rattle.placement.specs.Pools.{poolOf, ValidPool};
+ghost use Rattle.placement.specs.Promises.{Fresh, Changed, Shared, Opens, Ready, Settled, changeOf, flat};
 
 // A pool without devices.
 fn bare(range: u64, limit: u32) -> Pool
@@ -119,8 +118,7 @@ fn settled(
     capacities: &[u64; 256],
     list: &mut [u64],
 ) -> ChangeAnswer
-    requires { ⌜ ValidPool pool × (1 ≤ pool .devices) × (1 ≤ n) × (n ≤ 256) × Rising 0 (deviceRows (now ids) (now capacities) 0 n) ⌝ }
-    requires { ⌜ (length (now ids) ≡ 256) × (length (now capacities) ≡ 256) × Zeros (now ids) n × Zeros (now capacities) n ⌝ }
+    requires { ⌜ Ready pool (now ids) (now capacities) n ⌝ }
     ensures { λ r. ⌜ Settled pool (deviceRows (now (ids .entry)) (now (capacities .entry)) 0 n) (now (list .entry)) r (now (list .exit)) ⌝ }
 {
     let plan = settle(pool, n, ids, capacities, list.len() / 4);

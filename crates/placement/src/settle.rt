@@ -16,17 +16,15 @@ use slicing_core::shares::shares;
 use slicing_core::table::new_table;
 use slicing_core::walk::walk;
 ghost use mathlib.Core.Path.{_≡_};
-ghost use Prim.Native.Nat.{_≤_, _^_};
-ghost use lib.Dec.{eqb};
+ghost use Prim.Native.Nat.{_≤_};
 ghost use lib.ListN.{length};
-ghost use Rattle.slicing.specs.Devices.{Rising};
-ghost use Rattle.slicing.specs.Runs.{total, relabel, coalesce, Coalesced};
+ghost use Rattle.slicing.specs.Runs.{relabel, coalesce};
 ghost use Rattle.slicing.specs.ShareRule.{shares as Rule·shares};
 ghost use Rattle.slicing.specs.SixSteps.{sameTurn, turns};
 ghost use Rattle.slicing_core.specs.Rows.{rows, deviceRows, turnOf};
-ghost use Rattle.slicing_core.specs.Stages.{scratch, Below};
-ghost use Rattle.placement.specs.Pools.{stateOf, poolOf, ValidPool, Zeros};
-ghost use Rattle.placement.specs.Promises.{Planned};
+ghost use Rattle.slicing_core.specs.Stages.{scratch};
+ghost use Rattle.placement.specs.Pools.{stateOf, poolOf};
+ghost use Rattle.placement.specs.Promises.{Ready, Fits, Planned};
 
 // A change worked out: the refusal number or 0, the moves, and the pool afterwards.
 pub struct Plan {
@@ -50,7 +48,7 @@ fn still() -> Moves
 
 // Each point's old owner and its new, where the pool is to have the n devices.
 fn turns_of(pool: Pool, n: usize, ids: &[u64; 256], capacities: &[u64; 256]) -> Runs
-    requires { ⌜ ValidPool pool × (1 ≤ pool .devices) × (1 ≤ n) × (n ≤ 256) × Rising 0 (deviceRows (now ids) (now capacities) 0 n) ⌝ }
+    requires { ⌜ Ready pool (now ids) (now capacities) n ⌝ }
     ensures turns { λ r. ⌜ relabel turnOf (rows (r .sizes) (r .labels) 0 (r .count))
         ≡ coalesce sameTurn (turns (stateOf pool .table) (Rule·shares (pool .range) (stateOf pool .devices))
         (Rule·shares (pool .range) (deviceRows (now (ids .entry)) (now (capacities .entry)) 0 n))) ⌝ }
@@ -79,9 +77,8 @@ fn turns_of(pool: Pool, n: usize, ids: &[u64; 256], capacities: &[u64; 256]) -> 
 
 // The pool with the n devices and the table of the runs.
 fn packed(pool: Pool, n: usize, ids: &[u64; 256], capacities: &[u64; 256], table: Runs) -> Pool
-    requires { ⌜ (n ≤ 256) × Rising 0 (deviceRows (now ids) (now capacities) 0 n) × Zeros (now ids) n × Zeros (now capacities) n ⌝ }
-    requires { ⌜ (length (now ids) ≡ 256) × (length (now capacities) ≡ 256) × (table .count ≤ 4096) × Below 65536 (table .labels) (table .count) ⌝ }
-    requires { ⌜ (total (rows (table .sizes) (table .labels) 0 (table .count)) ≤ 2 ^ 32) × Coalesced eqb (rows (table .sizes) (table .labels) 0 (table .count)) ⌝ }
+    requires pool { ⌜ Ready pool (now ids) (now capacities) n ⌝ }
+    requires table { ⌜ Fits table ⌝ }
     ensures { λ r. ⌜ r ≡ poolOf (record {
       range = pool .range;
       limit = pool .limit;
@@ -115,8 +112,7 @@ pub fn settle(
     capacities: &[u64; 256],
     places: usize,
 ) -> Plan
-    requires { ⌜ ValidPool pool × (1 ≤ pool .devices) × (1 ≤ n) × (n ≤ 256) × Rising 0 (deviceRows (now ids) (now capacities) 0 n) ⌝ }
-    requires { ⌜ (length (now ids) ≡ 256) × (length (now capacities) ≡ 256) × Zeros (now ids) n × Zeros (now capacities) n ⌝ }
+    requires { ⌜ Ready pool (now ids) (now capacities) n ⌝ }
     ensures { λ r. ⌜ Planned pool (deviceRows (now (ids .entry)) (now (capacities .entry)) 0 n) places r ⌝ }
 {
     let turns = turns_of(pool, n, ids, capacities);

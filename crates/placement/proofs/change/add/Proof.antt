@@ -9,7 +9,7 @@ use Rattle.slicing.specs.Devices.{present, insert}
 use Rattle.slicing.specs.Limits.{maxId, maxCapacity, outside}
 use Rattle.placement.specs.Pools.{stateOf, ValidPool}
 use Rattle.placement.proofs.Calls.{add-two, add-four, add-six, add-first, add-settle}
-use Rattle.placement.proofs.NextDevices.{Next, both-inside, next-insert, next-settle}
+use Rattle.placement.proofs.NextDevices.{Next, both-inside, next-insert, next-ready}
 use Rattle.placement.proofs.change.add.Statement.{statement}
 use Rattle.placement.proofs.change.add.Tie as tie
 
@@ -66,7 +66,7 @@ next c =
 settled-requires : tie.Need-settled-requires
 settled-requires c κs =
     let n = c .before in
-    next-settle (found (some n) .opened .ensures .rows) (omega (arith, some n .if4 .left)) (next n)
+    next-ready (found (some n) .opened .ensures .rows) (omega (arith, some n .if4 .left)) (next n)
 
 returns-5 : tie.Need-returns-5
 returns-5 c =

@@ -9,7 +9,7 @@ use Rattle.slicing.specs.Devices.{present, delete}
 use Rattle.slicing.specs.Limits.{maxId, outside}
 use Rattle.placement.specs.Pools.{stateOf, ValidPool}
 use Rattle.placement.proofs.Calls.{remove-two, remove-five, remove-seven, remove-settle}
-use Rattle.placement.proofs.NextDevices.{Next, next-delete, next-settle}
+use Rattle.placement.proofs.NextDevices.{Next, next-delete, next-ready}
 use Rattle.placement.proofs.OpenedPools.{row-below}
 use Rattle.placement.proofs.change.remove.Statement.{statement}
 use Rattle.placement.proofs.change.remove.Tie as tie
@@ -66,7 +66,7 @@ next c =
 settled-requires : tie.Need-settled-requires
 settled-requires c κs =
     let m = more (c .before) in
-    next-settle (found m .opened .ensures .rows) (omega (arith, m .if3 .left)) (next (c .before))
+    next-ready (found m .opened .ensures .rows) (omega (arith, m .if3 .left)) (next (c .before))
 
 returns-4 : tie.Need-returns-4
 returns-4 c =

@@ -9,7 +9,7 @@ use Rattle.slicing.specs.Devices.{update}
 use Rattle.slicing.specs.Limits.{maxId, maxCapacity, outside}
 use Rattle.placement.specs.Pools.{stateOf, ValidPool}
 use Rattle.placement.proofs.Calls.{resize-two, resize-five, resize-settle}
-use Rattle.placement.proofs.NextDevices.{Next, next-update, next-settle}
+use Rattle.placement.proofs.NextDevices.{Next, next-update, next-ready}
 use Rattle.placement.proofs.OpenedPools.{row-below}
 use Rattle.placement.proofs.change.resize.Statement.{statement}
 use Rattle.placement.proofs.change.resize.Tie as tie
@@ -52,7 +52,7 @@ settled-requires : tie.Need-settled-requires
 settled-requires c κs =
     let h = held (c .before) in
     let o = h .before .before .opened .ensures in
-    next-settle (o .rows) (omega (arith, o .found (there h) .0)) (next (c .before))
+    next-ready (o .rows) (omega (arith, o .found (there h) .0)) (next (c .before))
 
 returns-3 : tie.Need-returns-3
 returns-3 c =

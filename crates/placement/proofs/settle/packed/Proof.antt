@@ -12,11 +12,11 @@ narrow-requires c κs =
     let s = c .before .before .before .before in
     let d = s .args .ids .now in
     let k = s .args .capacities .now in (
-      (s .pre .1 .0 .0, s .pre .1 .0 .1, search needs, search needs),
+      (s .pre .0 .idsSize, s .pre .0 .capacitiesSize, search needs, search needs),
       (
-        below-zeros 65536 256 (s .args .n) d (omega arith) (s .pre .1 .0 .0) (s .pre .0 .2) (below-rising d k (s .args .n) (s .pre .0 .1)),
-        below-zeros 4294967296 256 (s .args .n) k (omega arith) (s .pre .1 .0 .1) (s .pre .0 .3)
-            (λ i l. omega (arith, capacities-rising d k (s .args .n) (s .pre .0 .1) i l)),
+        below-zeros 65536 256 (s .args .n) d (omega arith) (s .pre .0 .idsSize) (s .pre .0 .noIds) (below-rising d k (s .args .n) (s .pre .0 .rising)),
+        below-zeros 4294967296 256 (s .args .n) k (omega arith) (s .pre .0 .capacitiesSize) (s .pre .0 .noCapacities)
+            (λ i l. omega (arith, capacities-rising d k (s .args .n) (s .pre .0 .rising) i l)),
       ),
     )
 
@@ -24,7 +24,7 @@ starts-of-requires : tie.Need-starts-of-requires
 starts-of-requires c κs =
     let s = c .before .before .before .before .before .before .before .before .before in
     let t = s .args .table in
-    (s .pre .1 .0 .2, s .pre .1 .1 .0, positive-coalesced (t .sizes) (t .labels) (t .count) (s .pre .1 .1 .1))
+    (s .pre .1 .few, s .pre .1 .most, positive-coalesced (t .sizes) (t .labels) (t .count) (s .pre .1 .coalesced))
 
 returns : tie.Need-returns
 returns c =
@@ -34,7 +34,7 @@ returns c =
     let a = s .args in
     rw (k .narrow .ensures .0, k .narrow .ensures .1)
     (pool-packed (a .pool .range) (a .pool .limit) (a .n) (a .table .count) (a .ids .now) (a .capacities .now) (a .table .sizes) (a .table .labels) _ _
-    (s .pre .0 .0) (s .pre .1 .0 .0) (s .pre .1 .0 .1) (s .pre .0 .2) (s .pre .0 .3) (p .starts-of .ensures) (c .owners-of .ensures))
+    (s .pre .0 .most) (s .pre .0 .idsSize) (s .pre .0 .capacitiesSize) (s .pre .0 .noIds) (s .pre .0 .noCapacities) (p .starts-of .ensures) (c .owners-of .ensures))
 
 pub packed-spec : {M : Type 1} → statement M
 packed-spec =

@@ -4,117 +4,60 @@ use mathlib.Core.Path.{refl, sym, ap, _∙_}
 use native.Mathlib.Omega.{arith}
 use borrow.Author.Needs.{needs}
 use Rattle.slicing.specs.SixSteps.{points}
-use Rattle.placement.proofs.Planning.{planned-refused, planned-done, total-plan, labels-plan, coalesced-plan, total-table, plan-eight, moves-plan, plan-nine, plan-done}
-use Rattle.placement.proofs.ValidParts.{valid-limited}
 use Rattle.placement.specs.Pools.{stateOf}
+use Rattle.placement.proofs.Planning.{planned-refused, planned-done, total-below, table-fits, plan-eight, moves-plan, plan-nine, plan-done}
 use Rattle.placement.proofs.settle.settle.Statement.{statement}
 use Rattle.placement.proofs.settle.settle.Tie as tie
+
+abbrev turned : tie.After-new-table → tie.After-turns-of
+turned c = c .before .before .before .before .before
 
 new-table-requires : tie.Need-new-table-requires
 new-table-requires c κs =
     let t = c .before .before .before .before in
-    let s = t .before in
-    let a = s .args in
-    let u = t .turns-of .result in (
-      t .turns-of .ensures .1 .0,
-      omega (
-        arith,
-        total-plan (a .pool) (s .pre .0 .0) (s .pre .0 .1) (a .ids .now) (a .capacities .now) (a .n) (s .pre .0 .4) (s .pre .0 .2)
-            (u .sizes) (u .labels) (u .count) (t .turns-of .ensures .0),
-        valid-limited (a .pool) (s .pre .0 .0) .most,
-      ),
-    )
+    (t .turns-of .ensures .1 .0, total-below (t .before .pre) (t .turns-of .result) (t .turns-of .ensures .0))
 
 returns : tie.Need-returns
 returns c =
     let w = c .before .before .before .before in
-    let t = w .before .before .before .before .before in
-    let s = t .before in
-    let a = s .args in
-    let u = t .turns-of .result in
-    let b = w .new-table .result in
-    planned-refused (a .pool) _ (a .places) _ 8 refl (c .still .ensures .0) (c .still .ensures .1) refl (s .pre .0 .0 .same)
-    (λ lent l. plan-eight (a .pool) (s .pre .0 .0) (s .pre .0 .1) (a .ids .now) (a .capacities .now) (a .n) (s .pre .0 .4) (s .pre .0 .2) (u .sizes) (u .labels) (u .count) (t .turns-of .ensures .0)
-    (b .sizes) (b .labels) (b .count) (w .new-table .ensures .0) (c .before .if1 .taken) lent)
+    let t = turned w in
+    planned-refused _ _ _ _ 8 refl (c .still .ensures .0) (c .still .ensures .1) refl (t .before .pre .valid .same)
+    (λ lent l. plan-eight (t .before .pre) (t .turns-of .result) (t .turns-of .ensures .0) (w .new-table .result) (w .new-table .ensures .0) (c .before .if1 .taken) lent)
 
 moves-of-requires : tie.Need-moves-of-requires
 moves-of-requires c κs =
-    let w = c .before .before .before .before .before in
-    let t = w .before .before .before .before .before in
-    let s = t .before in
-    let a = s .args in
-    let u = t .turns-of .result in
-    let b = w .new-table .result in (
-      t .turns-of .ensures .1 .0,
-      omega (arith, total-plan (a .pool) (s .pre .0 .0) (s .pre .0 .1) (a .ids .now) (a .capacities .now) (a .n) (s .pre .0 .4) (s .pre .0 .2) (u .sizes) (u .labels) (u .count) (t .turns-of .ensures .0), valid-limited (a .pool) (s .pre .0 .0) .most),
-    )
+    let t = turned (c .before .before .before .before .before) in
+    (t .turns-of .ensures .1 .0, total-below (t .before .pre) (t .turns-of .result) (t .turns-of .ensures .0))
 
 returns-2 : tie.Need-returns-2
 returns-2 c =
     let w = c .before .before .before .before .before .before .before .before .before in
-    let t = w .before .before .before .before .before in
-    let s = t .before in
-    let a = s .args in
-    let u = t .turns-of .result in
-    let b = w .new-table .result in
+    let t = turned w in
     let o = c .before .before .before in
-    let m = o .moves-of .result in
-    planned-refused (a .pool) _ (a .places) _ 9 refl (c .still2 .ensures .0) (c .still2 .ensures .1) refl (s .pre .0 .0 .same)
-    (λ lent l. plan-nine (a .pool) (s .pre .0 .0) (s .pre .0 .1) (a .ids .now) (a .capacities .now) (a .n) (s .pre .0 .4) (s .pre .0 .2) (u .sizes) (u .labels) (u .count) (t .turns-of .ensures .0)
-    (b .sizes) (b .labels) (b .count) (w .new-table .ensures .0)
-    (m .starts) (m .sizes) (m .labels) (m .count) (o .moves-of .ensures .0) (c .before .before .before .before .before .before .if1 .left) lent (omega (arith, c .before .if2 .taken)))
+    planned-refused _ _ _ _ 9 refl (c .still2 .ensures .0) (c .still2 .ensures .1) refl (t .before .pre .valid .same)
+    (λ lent l. plan-nine (t .before .pre) (t .turns-of .result) (t .turns-of .ensures .0) (w .new-table .result) (w .new-table .ensures .0)
+    (o .moves-of .result) (o .moves-of .ensures .0) (c .before .before .before .before .before .before .if1 .left) lent (omega (arith, c .before .if2 .taken)))
 
 packed-requires : tie.Need-packed-requires
 packed-requires c κs =
     let w = c .before .before .before .before .before .before .before .before in
-    let t = w .before .before .before .before .before in
-    let s = t .before in
-    let a = s .args in
-    let u = t .turns-of .result in
-    let b = w .new-table .result in (
-      (s .pre .0 .3, s .pre .0 .4, s .pre .1 .2, s .pre .1 .3),
-      (
-        (
-          s .pre .1 .0,
-          s .pre .1 .1,
-          omega (arith, c .before .before .before .before .before .if1 .left, valid-limited (a .pool) (s .pre .0 .0) .roomMost),
-          labels-plan (a .pool) (s .pre .0 .0) (s .pre .0 .1) (a .ids .now) (a .capacities .now) (a .n) (s .pre .0 .4) (s .pre .0 .2) (u .sizes) (u .labels) (u .count) (t .turns-of .ensures .0)
-              (b .sizes) (b .labels) (b .count) (w .new-table .ensures .0),
-        ),
-        (
-          omega (
-            arith,
-            total-table (a .pool) (s .pre .0 .0) (s .pre .0 .1) (a .ids .now) (a .capacities .now) (a .n) (s .pre .0 .4) (s .pre .0 .2) (u .sizes) (u .labels) (u .count) (t .turns-of .ensures .0)
-                (b .sizes) (b .labels) (b .count) (w .new-table .ensures .0),
-            valid-limited (a .pool) (s .pre .0 .0) .most,
-          ),
-          coalesced-plan (a .pool) (s .pre .0 .0) (s .pre .0 .1) (a .ids .now) (a .capacities .now) (a .n) (s .pre .0 .4) (s .pre .0 .2) (u .sizes) (u .labels) (u .count) (t .turns-of .ensures .0)
-              (b .sizes) (b .labels) (b .count) (w .new-table .ensures .0),
-        ),
-      ),
+    let t = turned w in (
+      t .before .pre,
+      table-fits (t .before .pre) (t .turns-of .result) (t .turns-of .ensures .0) (w .new-table .result) (w .new-table .ensures .0) (c .before .before .before .before .before .if1 .left),
     )
 
 returns-3 : tie.Need-returns-3
 unfolding stateOf
 returns-3 c =
     let w = c .before .before .before .before .before .before .before .before .before in
-    let t = w .before .before .before .before .before in
-    let s = t .before in
-    let a = s .args in
-    let u = t .turns-of .result in
-    let b = w .new-table .result in
+    let t = turned w in
     let o = c .before .before .before in
-    let m = o .moves-of .result in
-    planned-done (a .pool) _ (a .places) _ _ _ refl (omega (arith, o .moves-of .ensures .1 .1 .0, t .turns-of .ensures .1 .0)) (moves-plan (a .pool) (s .pre .0 .0) (s .pre .0 .1) (a .ids .now) (a .capacities .now) (a .n) (s .pre .0 .4) (s .pre .0 .2) (u .sizes) (u .labels) (u .count) (t .turns-of .ensures .0)
-    (b .sizes) (b .labels) (b .count) (w .new-table .ensures .0)
-    (m .starts) (m .sizes) (m .labels) (m .count) (o .moves-of .ensures .0))
-    (o .moves-of .ensures .1 .0 ∙ ap points (sym (o .moves-of .ensures .0) ∙ moves-plan (a .pool) (s .pre .0 .0) (s .pre .0 .1) (a .ids .now) (a .capacities .now) (a .n) (s .pre .0 .4) (s .pre .0 .2) (u .sizes) (u .labels) (u .count) (t .turns-of .ensures .0)
-    (b .sizes) (b .labels) (b .count) (w .new-table .ensures .0)
-    (m .starts) (m .sizes) (m .labels) (m .count) (o .moves-of .ensures .0)))
-    (c .packed .ensures)
-    (λ lent l. plan-done (a .pool) (s .pre .0 .0) (s .pre .0 .1) (a .ids .now) (a .capacities .now) (a .n) (s .pre .0 .4) (s .pre .0 .2) (u .sizes) (u .labels) (u .count) (t .turns-of .ensures .0)
-    (b .sizes) (b .labels) (b .count) (w .new-table .ensures .0)
-    (m .starts) (m .sizes) (m .labels) (m .count) (o .moves-of .ensures .0) (c .before .before .before .before .before .before .if1 .left) lent (omega (arith, c .before .if2 .left)))
+    let moves = moves-plan (t .before .pre) (t .turns-of .result) (t .turns-of .ensures .0) (w .new-table .result) (w .new-table .ensures .0)
+    (o .moves-of .result) (o .moves-of .ensures .0) in
+    planned-done _ _ _ _ _ _ refl (omega (arith, o .moves-of .ensures .1 .1 .0, t .turns-of .ensures .1 .0)) moves
+    (o .moves-of .ensures .1 .0 ∙ ap points (sym (o .moves-of .ensures .0) ∙ moves)) (c .packed .ensures)
+    (λ lent l. plan-done (t .before .pre) (t .turns-of .result) (t .turns-of .ensures .0) (w .new-table .result) (w .new-table .ensures .0)
+    (o .moves-of .result) (o .moves-of .ensures .0) (c .before .before .before .before .before .before .if1 .left) lent (omega (arith, c .before .if2 .left)))
 
 pub settle-spec : {M : Type 1} → statement M
 settle-spec =

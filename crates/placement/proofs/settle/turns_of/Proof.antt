@@ -19,7 +19,7 @@ start c = c .before .before .before .before .before .before .before
 lengths-of-requires : tie.Need-lengths-of-requires
 lengths-of-requires c κs =
     let s = start (c .before .before .before .before) in
-    intervals-most (s .args .pool) (s .pre .0) (s .pre .1)
+    intervals-most (s .args .pool) (s .pre .valid) (s .pre .had)
 
 by-owner-requires : tie.Need-by-owner-requires
 by-owner-requires c κs =
@@ -27,11 +27,11 @@ by-owner-requires c κs =
     let l = z .before in
     let w = l .before .before .before .before .before in
     let s = start w in
-    let t = total-range (s .args .pool) (s .pre .0) (s .pre .1) _ _ _ (w .widen .ensures .1) (w .widen .ensures .0) (l .lengths-of .ensures .0) in (
+    let t = total-range (s .args .pool) (s .pre .valid) (s .pre .had) _ _ _ (w .widen .ensures .1) (w .widen .ensures .0) (l .lengths-of .ensures .0) in (
       (
-        intervals-most (s .args .pool) (s .pre .0) (s .pre .1),
-        owners-below (s .args .pool) (s .pre .0) (s .pre .1) _ _ _ (w .widen .ensures .1) (w .widen .ensures .0) (l .lengths-of .ensures .0),
-        omega (arith, t, valid-limited (s .args .pool) (s .pre .0) .most),
+        intervals-most (s .args .pool) (s .pre .valid) (s .pre .had),
+        owners-below (s .args .pool) (s .pre .valid) (s .pre .had) _ _ _ (w .widen .ensures .1) (w .widen .ensures .0) (l .lengths-of .ensures .0),
+        omega (arith, t, valid-limited (s .args .pool) (s .pre .valid) .most),
       ),
       (sym (z .none .ensures .0), z .none .ensures .1),
     )
@@ -41,18 +41,18 @@ shares-requires c κs =
     let s = start (c .before .before .before .before .before .before .before .before .before .before) in
     let d = s .args .ids .now in
     let k = s .args .capacities .now in
-    let r = s .pre .4 in (
-      (s .pre .3, valid-limited (s .args .pool) (s .pre .0) .most, λ i l. omega (arith, capacities-rising d k (s .args .n) r i l)),
-      omega (arith, rising-capacities 0 (deviceRows d k 0 (s .args .n)) r, length-deviceRows d k 0 (s .args .n), s .pre .2),
+    let r = s .pre .rising in (
+      (s .pre .most, valid-limited (s .args .pool) (s .pre .valid) .most, λ i l. omega (arith, capacities-rising d k (s .args .n) r i l)),
+      omega (arith, rising-capacities 0 (deviceRows d k 0 (s .args .n)) r, length-deviceRows d k 0 (s .args .n), s .pre .some),
     )
 
 quotas-requires : tie.Need-quotas-requires
 quotas-requires c κs =
     let b = c .before .before .before in
     let s = start (b .before .before .before .before .before .before .before .before .before .before) in (
-      s .pre .3,
-      below-rising (s .args .ids .now) (s .args .capacities .now) (s .args .n) (s .pre .4),
-      ascending-rising (s .args .ids .now) (s .args .capacities .now) (s .args .n) (s .pre .4),
+      s .pre .most,
+      below-rising (s .args .ids .now) (s .args .capacities .now) (s .args .n) (s .pre .rising),
+      ascending-rising (s .args .ids .now) (s .args .capacities .now) (s .args .n) (s .pre .rising),
       b .by-owner .ensures .1,
     )
 
@@ -65,20 +65,20 @@ walk-requires c κs =
     let w = l .before .before .before .before .before in
     let s = start w in
     let a = s .args in
-    let v = s .pre .0 in
-    let t = total-range (a .pool) v (s .pre .1) _ _ _ (w .widen .ensures .1) (w .widen .ensures .0) (l .lengths-of .ensures .0) in (
+    let v = s .pre .valid in
+    let t = total-range (a .pool) v (s .pre .had) _ _ _ (w .widen .ensures .1) (w .widen .ensures .0) (l .lengths-of .ensures .0) in (
       (
-        intervals-most (a .pool) v (s .pre .1),
-        s .pre .3,
-        owners-below (a .pool) v (s .pre .1) _ _ _ (w .widen .ensures .1) (w .widen .ensures .0) (l .lengths-of .ensures .0),
-        below-rising (a .ids .now) (a .capacities .now) (a .n) (s .pre .4),
+        intervals-most (a .pool) v (s .pre .had),
+        s .pre .most,
+        owners-below (a .pool) v (s .pre .had) _ _ _ (w .widen .ensures .1) (w .widen .ensures .0) (l .lengths-of .ensures .0),
+        below-rising (a .ids .now) (a .capacities .now) (a .n) (s .pre .rising),
       ),
       (
         (q .quotas .ensures .leftSize, q .quotas .ensures .needsSize),
         (
           omega (arith, t, valid-limited (a .pool) v .most),
-          takens-of (a .pool) v (s .pre .1) _ _ _ (w .widen .ensures .1) (w .widen .ensures .0) (l .lengths-of .ensures .0)
-              (a .ids .now) (a .capacities .now) (a .n) (s .pre .4) (s .pre .2) _ _ (b .by-owner .ensures .1) (b .by-owner .ensures .0)
+          takens-of (a .pool) v (s .pre .had) _ _ _ (w .widen .ensures .1) (w .widen .ensures .0) (l .lengths-of .ensures .0)
+              (a .ids .now) (a .capacities .now) (a .n) (s .pre .rising) (s .pre .some) _ _ (b .by-owner .ensures .1) (b .by-owner .ensures .0)
               (h .shares .ensures .0) _ _ (q .quotas .ensures),
         ),
       ),
@@ -95,8 +95,8 @@ returns c =
     let a = s .args in (
       c .walk .ensures .0
           ∙ ap (coalesce sameTurn)
-          (turns-of (a .pool) (s .pre .0) (s .pre .1) _ _ _ (w .widen .ensures .1) (w .widen .ensures .0) (l .lengths-of .ensures .0)
-          (a .ids .now) (a .capacities .now) (a .n) (s .pre .4) (s .pre .2) _ _ (b .by-owner .ensures .1) (b .by-owner .ensures .0)
+          (turns-of (a .pool) (s .pre .valid) (s .pre .had) _ _ _ (w .widen .ensures .1) (w .widen .ensures .0) (l .lengths-of .ensures .0)
+          (a .ids .now) (a .capacities .now) (a .n) (s .pre .rising) (s .pre .some) _ _ (b .by-owner .ensures .1) (b .by-owner .ensures .0)
           (h .shares .ensures .0) _ _ (q .quotas .ensures)),
       c .walk .ensures .1,
     )
