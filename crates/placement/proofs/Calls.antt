@@ -29,7 +29,8 @@ use Rattle.placement.specs.declared.ChangeAnswer.{ChangeAnswer}
 use Rattle.placement.specs.declared.Pool.{Pool}
 use Rattle.placement.specs.declared.settle.Plan.{Plan}
 use Rattle.placement.specs.Pools.{stateOf, poolOf, ValidPool}
-use Rattle.placement.specs.Promises.{movesIn, flat, Answered, Changed, Planned, Settled}
+use Rattle.placement.specs.Promises.{movesIn, flat, Answered, Changed}
+use Rattle.placement.specs.Steps.{Planned, Settled}
 use Rattle.placement.proofs.NextDevices.{Next}
 use Rattle.placement.proofs.OpenedPools.{length-devices}
 

@@ -18,7 +18,7 @@ use Rattle.slicing_core.proofs.Rows.{length-deviceRows}
 use Rattle.placement.specs.declared.Pool.{Pool}
 use Rattle.placement.specs.declared.change.Opening.{Opening}
 use Rattle.placement.specs.Pools.{stateOf, Zeros}
-use Rattle.placement.specs.Promises.{Opened, Opens}
+use Rattle.placement.specs.Steps.{Opened, Opens}
 use Rattle.placement.proofs.ValidParts.{valid-rising, valid-cleared, valid-limited}
 
 pub length-devices : (p : Pool) → length (stateOf p .devices) ≡ p .devices

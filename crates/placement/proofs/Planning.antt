@@ -28,7 +28,7 @@ use Rattle.slicing_core.proofs.Settled.{newTable-runs, moves-runs, total-runs}
 use Rattle.placement.specs.declared.Pool.{Pool}
 use Rattle.placement.specs.declared.settle.Plan.{Plan}
 use Rattle.placement.specs.Pools.{stateOf, poolOf}
-use Rattle.placement.specs.Promises.{Ready, Fits, Planned}
+use Rattle.placement.specs.Steps.{Ready, Fits, Planned}
 use Rattle.placement.proofs.PaddedRows.{length-rows}
 use Rattle.placement.proofs.Turning.{Under, under-relabel, under-coalesce, below-under}
 use Rattle.placement.proofs.ValidParts.{valid-limited}

@@ -25,7 +25,8 @@ ghost use Rattle.slicing.specs.Runs.{_of_};
 ghost use Rattle.slicing_core.specs.Rows.{at, deviceRows, moveRows};
 ghost use Rattle.slicing_core.specs.Stages.{scratch, Ascending, Decides, Position};
 ghost use Rattle.placement.specs.Pools.{poolOf, ValidPool};
-ghost use Rattle.placement.specs.Promises.{Fresh, Changed, Shared, Opens, Ready, Settled, changeOf, flat};
+ghost use Rattle.placement.specs.Promises.{Fresh, Changed, Shared, changeOf, flat};
+ghost use Rattle.placement.specs.Steps.{Opens, Ready, Settled};
 
 // A pool without devices.
 fn bare(range: u64, limit: u32) -> Pool

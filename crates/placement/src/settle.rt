@@ -24,7 +24,7 @@ ghost use Rattle.slicing.specs.SixSteps.{sameTurn, turns};
 ghost use Rattle.slicing_core.specs.Rows.{rows, deviceRows, turnOf};
 ghost use Rattle.slicing_core.specs.Stages.{scratch};
 ghost use Rattle.placement.specs.Pools.{stateOf, poolOf};
-ghost use Rattle.placement.specs.Promises.{Ready, Fits, Planned};
+ghost use Rattle.placement.specs.Steps.{Ready, Fits, Planned};
 
 // A change worked out: the refusal number or 0, the moves, and the pool afterwards.
 pub struct Plan {

@@ -1,6 +1,6 @@
 -- `placement::change::opened` meets its contract: a valid pool's ids rise, so the place of one tells whether it is present.
 use borrow.Author.Needs.{needs}
-use Rattle.placement.specs.Promises.{Opened}
+use Rattle.placement.specs.Steps.{Opened}
 use Rattle.placement.proofs.OpenedPools.{opened-ascending, opened-present}
 use Rattle.placement.proofs.change.opened.Statement.{statement}
 use Rattle.placement.proofs.change.opened.Tie as tie
