@@ -3,5 +3,8 @@ use borrow.Author.Needs.{needs}
 use Rattle.lookups.proofs.refused.Statement.{statement}
 use Rattle.lookups.proofs.refused.Tie as tie
 
+returns : tie.Need-returns
+returns c = search needs
+
 pub refused-spec : {M : Type 1} → statement M
-refused-spec = tie.close (tie.spec (λ c. search needs))
+refused-spec = tie.close (tie.spec returns)

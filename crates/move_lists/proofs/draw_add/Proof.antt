@@ -3,5 +3,8 @@ use borrow.Author.Needs.{needs}
 use Rattle.move_lists.proofs.draw_add.Statement.{statement}
 use Rattle.move_lists.proofs.draw_add.Tie as tie
 
+returns : tie.Need-returns
+returns c = search needs
+
 pub draw-add-spec : {M : Type 1} → statement M
-draw-add-spec = tie.close (tie.spec (λ c κs. search needs) (λ c. search needs))
+draw-add-spec = tie.close (tie.spec (λ c κs. search needs) returns)

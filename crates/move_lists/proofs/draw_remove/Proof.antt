@@ -3,5 +3,8 @@ use borrow.Author.Needs.{needs}
 use Rattle.move_lists.proofs.draw_remove.Statement.{statement}
 use Rattle.move_lists.proofs.draw_remove.Tie as tie
 
+returns : tie.Need-returns
+returns c = search needs
+
 pub draw-remove-spec : {M : Type 1} → statement M
-draw-remove-spec = tie.close (tie.spec (λ c κs. search needs) (λ c. search needs))
+draw-remove-spec = tie.close (tie.spec (λ c κs. search needs) returns)

@@ -24,7 +24,9 @@ returns-2 c =
     (c .number1 .ensures .0)
 
 pub marked-spec : {M : Type 1} → statement M
-marked-spec = tie.close (tie.spec
+marked-spec =
+    tie.close
+    (tie.spec
     returns
     (λ c κs. search needs)
     (λ c. search needs)

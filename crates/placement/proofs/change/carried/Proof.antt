@@ -3,5 +3,8 @@ use borrow.Author.Needs.{needs}
 use Rattle.placement.proofs.change.carried.Statement.{statement}
 use Rattle.placement.proofs.change.carried.Tie as tie
 
+returns : tie.Need-returns
+returns c = search needs
+
 pub carried-spec : {M : Type 1} → statement M
-carried-spec = tie.close (tie.spec (λ c κs. search needs) (λ c. search needs) (λ c. search needs))
+carried-spec = tie.close (tie.spec (λ c κs. search needs) (λ c. search needs) returns)

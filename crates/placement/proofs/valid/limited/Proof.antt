@@ -12,7 +12,8 @@ returns-6 c =
 
 pub limited-spec : {M : Type 1} → statement M
 limited-spec =
-    tie.close (tie.spec
+    tie.close
+    (tie.spec
     (λ c. search needs)
     (λ c. search needs)
     (λ c. search needs)

@@ -32,7 +32,8 @@ returns-5 c =
 
 pub cut-interval-spec : {M : Type 1} → statement M
 cut-interval-spec =
-    tie.close (tie.spec
+    tie.close
+    (tie.spec
     returns
     returns-2
     (λ c. search needs)
