@@ -2,13 +2,28 @@
  *
  * A pool is given by the bytes of its image, and a call that makes or changes one leaves the bytes of
  * its image in a lent buffer; nothing is held between two calls. A buffer is a pointer and a count of
- * elements; the pointer is never null, the buffers of one call do not overlap, and beyond the count
- * nothing is read or written. A call takes any numbers and any bytes, and returns 0 or a refusal number.
+ * elements; the buffers of one call do not overlap, and beyond the count nothing is read or written. The
+ * pointer is never null, also where the count is 0: then any address that is not null will do. A call
+ * takes any numbers and any bytes, and returns 0 or a refusal number.
  *
- * Results stand in the first places of `answer` (or `row`); on a refusal those places are zeros. Where
- * there are too few places the call returns 17 and writes nothing at all. Beside those places a refused
- * call writes nothing: buffers, list and tally stay as lent. Bytes past a written image stay, and so do
- * the places of a list past its moves.
+ * Results stand in the first places of `answer` (or `row`). On a refusal the places of `answer` are zeros;
+ * of a row, row[0] is the number that is returned, row[9] is 256 where that is 12, and the others are
+ * zeros. Where there are too few places the call returns 17 and stores nothing at all. Beside those
+ * places a refused call leaves every value: buffers, list and tally hold what was lent (the tally's two
+ * numbers may be stored again, unchanged). Bytes past a written image stay, and so do the places of a
+ * list past its moves.
+ *
+ * Stack: measured on x86-64 (callers/c/stack.c), the changes need 1,760 KB, gorvyts_replay 1,750,
+ * gorvyts_transcript 1,730, gorvyts_owner 810, gorvyts_check and the lookups of copies 790, gorvyts_fresh
+ * 750. A thread of 1 MB is too small for a change: it ends the process.
+ *
+ * Cost: every call reads and checks its whole image, which takes far longer than the lookup itself; a
+ * single gorvyts_owner or gorvyts_copies takes as long as some hundred blocks of gorvyts_copies_of_many,
+ * which checks its image once.
+ *
+ * Threads: no call keeps or shares anything but the buffers lent to it, so calls may run at the same time
+ * on buffers of their own. Buffers that are only read (image, text, blocks) may be shared. A tally that
+ * several threads use must be guarded by them: it is read and then stored.
  */
 #ifndef GORVYTS_H
 #define GORVYTS_H
@@ -52,7 +67,8 @@ uint32_t gorvyts_check(const uint8_t *image, size_t image_size);
  * Refusals: 2, 17. */
 uint32_t gorvyts_fresh(uint64_t range, uint64_t limit, uint8_t *image, size_t image_size, uint64_t *answer, size_t answer_size);
 
-/* The image of the pool that a history leaves; lines that are refused change nothing. answer[0]: its length.
+/* The image of the pool that a history leaves; lines that are refused change nothing. A text without an
+ * accepted range line leaves a fresh pool with R = 1 and M = 1, and 0 is returned. answer[0]: its length.
  * Refusals: 2 for more than 65,536 bytes, 17. */
 uint32_t gorvyts_replay(const uint8_t *text, size_t text_size, uint8_t *image, size_t image_size, uint64_t *answer, size_t answer_size);
 
@@ -78,15 +94,16 @@ uint32_t gorvyts_owner(const uint8_t *image, size_t image_size, uint64_t point, 
 
 /* The k devices that hold the copies of a block. row[0]: the number that is returned, row[1] to row[8]: the
  * owners in their order and then zeros, row[9]: the probes made, 256 where 12 is returned. The tally is
- * two numbers, lookups and probes; an accepted lookup is added, and both stay at 4,294,967,295.
+ * two numbers, lookups and probes; an accepted lookup is added, and both stay at 4,294,967,295. A refused
+ * lookup leaves both.
  * Refusals: 14, 15, 16, 11, 10, 12; 17 where the tally has under 2 places or the row under 10. */
 uint32_t gorvyts_copies(const uint8_t *image, size_t image_size, uint64_t block, uint64_t k,
                         uint32_t *tally, size_t tally_size, uint32_t *row, size_t row_size);
 
 /* The same for many blocks, one after another, with ten numbers for each in `rows`. Returns 0 though rows may
  * hold refusals.
- * Refusals: 14, 15, 16; 17 where the tally has under 2 places or there are under 10 numbers for each block;
- * then rows and tally stay. */
+ * Refusals: 14, 15, 16; 17 where the tally has under 2 places or there are under 10 numbers for each block.
+ * Refused as a whole, it leaves rows and tally: no row holds the number then. */
 uint32_t gorvyts_copies_of_many(const uint8_t *image, size_t image_size, const uint64_t *blocks, size_t blocks_size, uint64_t k,
                                 uint32_t *tally, size_t tally_size, uint32_t *rows, size_t rows_size);
 

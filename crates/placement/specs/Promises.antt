@@ -1,4 +1,5 @@
--- What the offered calls promise: for each, a record of equations for every pool value, every number and every list.
+-- What the offered calls and the internal changes on flat numbers promise: for each, a record of equations for every pool value, every
+-- number and every list.
 --
 --   movesIn xs              the moves of a flat list, four numbers a place
 --   flat ms                 the numbers of moves

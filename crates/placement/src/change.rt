@@ -1,4 +1,4 @@
-// The offered calls.
+// The offered calls for a fresh pool and a share, and the changes on flat numbers.
 use crate::Call;
 use crate::ChangeAnswer;
 use crate::Pool;

@@ -1,4 +1,5 @@
-// The offered calls on a pool: a fresh pool, add, remove, resize, and the share of a device. Every call
+// The struct Pool. Offered: a fresh pool, and the share of a device. Internal: add, remove and resize with
+// a list of flat numbers, for `move_lists`, which offers them, for `history` and for `gorvyts`. Every call
 // takes any numbers and any pool value; a refusal answers its number and zeros, and leaves pool and
 // list as they were.
 mod arrays;
