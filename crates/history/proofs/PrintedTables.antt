@@ -2,7 +2,7 @@
 --
 --   table-rows           the intervals of a valid pool are those that its arrays give
 --   table-place, table-put   what `put_table` answers and leaves
---   transcriptReply-answer   the reply of a transcript
+--   transcriptReply-answer, transcribed-answer   what the answer of a transcript is says what its reply is
 --   transcribed-short, transcribed-long, transcribed-whole   the three answers of `transcript`
 use mathlib.Core.Path.{_≡_, refl, sym, ap, ap₂, _∙_}
 use mathlib.Core.Bool.{Bool, true, false, cond}

@@ -24,7 +24,8 @@ pub ownerReply-answer : (R n x d : ℕ) → ownerReply (ownerAnswer R n x d) ≡
 ownerReply-answer R n x d = go (leb R x) (eqb n 0)
   where
     go : (a b : Bool)
-        → ownerReply (cond a (OwnerAnswer.Refused 13) (cond b (OwnerAnswer.Refused 10) (OwnerAnswer.Owner d))) ≡ cond a (declined 13) (cond b (declined 10) (replied d))
+        → ownerReply (cond a (OwnerAnswer.Refused 13) (cond b (OwnerAnswer.Refused 10) (OwnerAnswer.Owner d)))
+        ≡ cond a (declined 13) (cond b (declined 10) (replied d))
     go true b = refl
     go false true = refl
     go false false = refl

@@ -1,7 +1,8 @@
 -- Laws of the answer to the call for a share.
 --
 -- shareReply: shareReply-answer
--- Shared: shared-answer (what the answer is says what its reply is), shared-two (a pool that is not valid, or an id outside its limits), shared-five, shared-present
+-- Shared: shared-answer (what the answer is says what its reply is);
+--   shared-two (a pool that is not valid, or an id outside its limits), shared-five, shared-present
 use mathlib.Core.Path.{_≡_, refl, ap, _∙_}
 use mathlib.Core.Bool.{Bool, true, false, cond}
 use mathlib.Core.List.{List}
@@ -21,7 +22,7 @@ use Rattle.placement.specs.declared.ShareAnswer.the-variants.{Share, Ref
 use Rattle.placement.proofs.HeldRows.{shareOf-row}
 use Rattle.placement.proofs.OpenedPools.{opened-rows, opened-ascending}
 
-pub shareReply-answer : (a b : Bool) (x : ℕ)
+shareReply-answer : (a b : Bool) (x : ℕ)
     → shareReply (cond a (Refused 2) (cond b (Share x) (Refused 5))) ≡ cond a (declined 2) (cond b (replied x) (declined 5))
 shareReply-answer true b x = refl
 shareReply-answer false true x = refl
