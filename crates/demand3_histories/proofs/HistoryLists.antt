@@ -35,11 +35,11 @@ use Rattle.demand3.specs.CallLists.{Step, Call, callsOf, Kept, poolAfter}
 use Rattle.demand3.specs.Openings.{Opening}
 use Rattle.demand3.proofs.Demand3.{demand3}
 use Rattle.demand3.proofs.Inhabited.{opens-fresh}
-use Rattle.demand3_histories.specs.HistoryLists.{earlyNumber, Early, printedEarly, numbersOf, callsBehind, printedCalls, placesLent, callOf, called, callsOfLines, Ranged, Unranged, HistoryDemand3, ranged, unranged}
+use Rattle.demand3_histories.specs.HistoryLists.{earlyNumber, Early, printedEarly, answered, numbersOf, later, callsBehind, printedCalls, blankPlace, placesLent, callOf, called, callsOfLines, Ranged, Unranged, HistoryDemand3, ranged, unranged}
 
 -- ---- one call
 
-map-blanks : (n : ℕ) → map moveOf (replicate n (record { start = 0; length = 0; from = 0; to = 0 })) ≡ replicate n (move 0 0 0 0)
+map-blanks : (n : ℕ) → map moveOf (replicate n blankPlace) ≡ replicate n (move 0 0 0 0)
 map-blanks zero = refl
 map-blanks (suc n) = ap (λ ms. move 0 0 0 0 ∷ ms) (map-blanks n)
 
@@ -106,7 +106,7 @@ module _ (s : State) (v : Valid s) (ps : List (List ℕ)) (rest : (t : State) �
     -- a change line is a call
     change-line : Follows s (callOf k ∷ callsOfLines ps) (readAll (reading (o .state)) ps .pool)
         (λ n. fields (n ∷ o .number ∷ o .moved ∷ o .count ∷ []) ++ printedLines (reading (o .state)) (suc n) ps)
-        (λ n ts. fields (n ∷ numbersOf (Remove 0) ts) ++ printedCalls (suc n) ps (callsBehind (Remove 0) ts))
+        (λ n ts. fields (n ∷ answered ts) ++ printedCalls (suc n) ps (later ts))
     change-line =
         let r : Behind (o .state) ps = rest (o .state) (valid-change s v places k) in
         record {

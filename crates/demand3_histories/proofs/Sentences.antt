@@ -1,7 +1,7 @@
 -- The sentences of demand 3 of a history: each follows from the fields of `Ranged` and `Unranged` alone.
 --
 --   PrintedAt ys i ns      line i of the bytes ys, counted from 0, has the numbers ns
---   RefusedAt ys i         line i is printed with a refusal number and no moves
+--   RefusedAt ys i n       line i is printed with the refusal number n and no moves
 --   changesIn ps           how many of the lines ps are change lines
 --   Asks l k               a line that says l asks for the change k
 --   CallAt g i j k         line i is printed with the answers of call j, which asked for the change k
@@ -9,8 +9,9 @@
 --
 -- the calls' promises    bytes-written, ranged-bytes, unranged-bytes (transcript), ranged-pool, unranged-pool (pool_after)
 -- lines                  front-refused, range-line, change-lines, other-lines, unranged-refused
--- calls                  as-many-calls, places-lent, refused-call, one-owner-each, exact-shares, moved-points
--- the end                left-agrees, range-and-limit-left, owners-left, table-printed, unranged-table
+-- calls                  as-many-calls, places-lent, refused-call, one-owner-each, exact-shares, moved-points; printed: refused-printed,
+--                        moved-printed
+-- the end                left-agrees, range-and-limit-left, owners-left, shares-left, table-printed, unranged-table
 use mathlib.Core.Path.{_≡_, refl, sym, ap, ap₂, _∙_, subst}
 use mathlib.Core.Bool.{Bool, true, false, not}
 use mathlib.Core.List.{List, [], _∷_, _++_, append-assoc}
@@ -24,13 +25,13 @@ use Rattle.placement.specs.declared.Pool.{Pool}
 use Rattle.placement.specs.declared.PoolAnswer.{PoolAnswer}
 use Rattle.placement.proofs.PoolLaws.{validPool-poolOf}
 use Rattle.slicing.specs.Changes.{fresh, Change, add, remove, resize}
+use Rattle.slicing.specs.Devices.{present}
 use Rattle.slicing.specs.Ledger.{Ledger, blank}
 use Rattle.slicing.specs.Limits.{maxRange, maxLimit}
 use Rattle.slicing.specs.Runs.{one}
 use Rattle.slicing.specs.ShareRule.{shareOf}
 use Rattle.slicing.proofs.Counting.{count-append}
 use Rattle.slicing_core.specs.Rows.{at, intervalRows}
-use Rattle.move_lists.specs.declared.Move.{Move}
 use Rattle.history.specs.declared.lines.LineAnswer.{LineAnswer}
 use Rattle.history.specs.declared.lines.LineAnswer.the-variants.{Range, Add, Remove, Resize, Refused}
 use Rattle.history.specs.declared.transcripts.TranscriptAnswer.{TranscriptAnswer}
@@ -50,7 +51,7 @@ use Rattle.demand3.specs.Demand3.{Agreement, Demand3}
 use Rattle.demand3.specs.Openings.{Opening}
 use Rattle.demand3.specs.Points.{countOf, endOf, OneInterval, holds}
 use Rattle.demand3.proofs.Sentences.{refused-stays, one-owner, exact-share, moved-count}
-use Rattle.demand3_histories.specs.HistoryLists.{earlyNumber, Early, printedEarly, numbersOf, callsBehind, later, printedCalls, placesLent, callOf, called, callsOfLines, Ranged, Unranged}
+use Rattle.demand3_histories.specs.HistoryLists.{earlyNumber, Early, printedEarly, numbersOf, callsBehind, later, printedCalls, blankPlace, placesLent, callOf, called, callsOfLines, Ranged, Unranged}
 use Rattle.demand3_histories.proofs.HistoryLists.{opens}
 
 -- ---- lines of bytes
@@ -61,10 +62,9 @@ pub record PrintedAt (ys : List ℕ) (i : ℕ) (ns : List ℕ) : Type 0 where
   pub whole : ys ≡ above ++ fields ns ++ below
   pub place : lineEnds above ≡ i
 
-pub record RefusedAt (ys : List ℕ) (i : ℕ) : Type 0 where
-  pub number : ℕ
-  pub some : 1 ≤ number
-  pub printed : PrintedAt ys i (suc i ∷ number ∷ 0 ∷ 0 ∷ [])
+pub record RefusedAt (ys : List ℕ) (i n : ℕ) : Type 0 where
+  pub some : 1 ≤ n
+  pub printed : PrintedAt ys i (suc i ∷ n ∷ 0 ∷ 0 ∷ [])
 
 printed-as : {ys : List ℕ} {i : ℕ} {ms ns : List ℕ} → ms ≡ ns → PrintedAt ys i ms → PrintedAt ys i ns
 printed-as {ys} {i} e = subst (λ (ns : List ℕ). PrintedAt ys i ns) e
@@ -89,9 +89,8 @@ early-number [] p vs e = e .0
 early-number (u ∷ us) p vs e = early-number us p vs (e .1)
 
 early-at : (us : List (List ℕ)) (p : List ℕ) (vs : List (List ℕ)) → Early (us ++ p ∷ vs) → (ys zs : List ℕ)
-    → ys ≡ printedEarly 1 (us ++ p ∷ vs) ++ zs → RefusedAt ys (length us)
+    → ys ≡ printedEarly 1 (us ++ p ∷ vs) ++ zs → RefusedAt ys (length us) (earlyNumber (lineIn p))
 early-at us p vs e ys zs q = record {
-  number = earlyNumber (lineIn p);
   some = early-number us p vs e;
   printed =
       record {
@@ -157,7 +156,8 @@ record Cut (ts left : List Step) (n : ℕ) (cs : List Call) : Type 0 where
 cut-size : {ts left : List Step} {n m : ℕ} {cs : List Call} → Cut ts left n cs → n ≡ m → Cut ts left m cs
 cut-size {ts} {left} {cs = cs} c e = subst (λ (n : ℕ). Cut ts left n cs) e c
 
-module _ (us qs : List (List ℕ)) (rest : (ts : List Step) → callsOf ts ≡ callsOfLines (us ++ qs) → Cut ts (callsAfter us ts) (changesIn us) (callsOfLines qs)) where
+module _ (us qs : List (List ℕ))
+    (rest : (ts : List Step) → callsOf ts ≡ callsOfLines (us ++ qs) → Cut ts (callsAfter us ts) (changesIn us) (callsOfLines qs)) where
   cut-change : (k : Change) (ts : List Step) → callsOf ts ≡ callOf k ∷ callsOfLines (us ++ qs)
       → Cut ts (callsAfter us (later ts)) (suc (changesIn us)) (callsOfLines qs)
   cut-change k [] e = let z : _≡_ {A = ℕ} 0 1 = cc in absurd (omega arith)
@@ -188,7 +188,8 @@ rows-listed p i zero e = refl
 rows-listed p i (suc zero) e = rw (le-ltb (suc i) (p .intervals) (omega arith))
 rows-listed p i (suc (suc n)) e =
     rw (lt-ltb (suc i) (p .intervals) (omega arith))
-    (ap (λ ys. fields (at (p .starts) i ∷ (at (p .starts) (suc i) - at (p .starts) i) ∷ at (p .owners) i ∷ []) ++ ys) (rows-listed p (suc i) (suc n) (omega arith)))
+    (ap (λ ys. fields (at (p .starts) i ∷ (at (p .starts) (suc i) - at (p .starts) i) ∷ at (p .owners) i ∷ []) ++ ys)
+    (rows-listed p (suc i) (suc n) (omega arith)))
 
 table-listed : (p : Pool) → ValidPool p → printedTable (stateOf p) ≡ heading ++ rowsFrom p 0 (p .intervals)
 table-listed p v = sym (table-rows p v) ∙ ap (λ ys. heading ++ ys) (rows-listed p 0 (p .intervals) (omega arith))
@@ -306,7 +307,8 @@ module _ {xs : List ℕ} (g : Ranged xs) where
   -- ---- lines
 
   -- every line before the range line prints a refusal number and no moves
-  pub front-refused : (us : List (List ℕ)) (p : List ℕ) (vs : List (List ℕ)) → g .front ≡ us ++ p ∷ vs → RefusedAt (replayed xs) (length us)
+  pub front-refused : (us : List (List ℕ)) (p : List ℕ) (vs : List (List ℕ)) → g .front ≡ us ++ p ∷ vs
+      → RefusedAt (replayed xs) (length us) (earlyNumber (lineIn p))
   front-refused us p vs e =
       let f : List ℕ = fields (suc (length (g .front)) ∷ 0 ∷ 0 ∷ 0 ∷ []) in
       let c : List ℕ = printedCalls (suc (suc (length (g .front)))) (g .back) (g .steps) in
@@ -423,7 +425,7 @@ module _ {xs : List ℕ} (g : Ranged xs) where
     -- 'Its list has 4,096 places.'
     pub places-lent : length (t .lent) ≡ 4096
     places-lent =
-        ap length (lent-each us t vs (subst Lent (sym (g .asked) ∙ ap callsOf e) (lent-lines (g .back)))) ∙ length-replicate {A = Move} 4096 (record { start = 0; length = 0; from = 0; to = 0 })
+        ap length (lent-each us t vs (subst Lent (sym (g .asked) ∙ ap callsOf e) (lent-lines (g .back)))) ∙ length-replicate 4096 blankPlace
 
     -- 'A refused line changes nothing'
     pub refused-call : 1 ≤ t .answer .refusal → (t .answer .pool ≡ poolAfter first us) × (t .answer .moved ≡ 0) × (t .answer .count ≡ 0)
@@ -441,6 +443,23 @@ module _ {xs : List ℕ} (g : Ranged xs) where
         → t .answer .moved ≡ countOf (λ x. not (eqb (old .owner x) (new .owner x))) (g .range)
     moved-points z n = moved-count (g .range) (g .limit) first blank opening us t vs kept z n .0
 
+  -- a printed change line: refused, its number and zeros; accepted, 0 and the number of points whose owner changed
+  module _ {i j : ℕ} {k : Change} (c : CallAt g i j k) where
+    abbrev before : Ledger
+    before = ledgerAfter blank (c .earlier)
+
+    pub refused-printed : 1 ≤ c .call .answer .refusal → RefusedAt (replayed xs) i (c .call .answer .refusal)
+    refused-printed z =
+        let r = refused-call (c .earlier) (c .call) (c .others) (c .whole) z in
+        record { some = z; printed = printed-as (ap₂ (λ m n. suc i ∷ c .call .answer .refusal ∷ m ∷ n ∷ []) (r .1) (r .2)) (c .printed) }
+
+    pub moved-printed : c .call .answer .refusal ≡ 0 → 1 ≤ length (before .entries)
+        → PrintedAt (replayed xs) i
+        (suc i ∷ 0 ∷ countOf (λ x. not (eqb (before .owner x) (feedStep before (c .call) .owner x))) (g .range) ∷ c .call .answer .count ∷ [])
+    moved-printed z n =
+        let r = moved-points (c .earlier) (c .call) (c .others) (c .whole) z n in
+        printed-as (ap₂ (λ m q. suc i ∷ m ∷ q ∷ c .call .answer .count ∷ []) z r) (c .printed)
+
   -- ---- the end
 
   -- the pool left and the book agree
@@ -454,6 +473,10 @@ module _ {xs : List ℕ} (g : Ranged xs) where
   -- each of its points lies in exactly one interval, whose owner is the one in the book
   pub owners-left : 1 ≤ length (book .entries) → (x : ℕ) → x < g .range → OneInterval poolLeft x (book .owner x)
   owners-left = left-agrees .owners
+
+  -- and each device in the book owns exactly its share
+  pub shares-left : (d : ℕ) → present d (book .entries) ≡ true → countOf (λ x. eqb d (book .owner x)) (g .range) ≡ shareOf (g .range) (book .entries) d
+  shares-left = left-agrees .shares
 
   -- 'Then comes `table`, then start, length and owner of each interval' of the pool left, and nothing else
   pub table-printed : replayed xs ≡ linesThen (heading ++ rowsFrom poolLeft 0 (poolLeft .intervals))
@@ -476,7 +499,8 @@ module _ {xs : List ℕ} (g : Unranged xs) where
   pub unranged-pool : (r : PoolAnswer) → Left xs r → length xs ≤ maxText → (r .refusal ≡ 0) × (r .pool ≡ poolOf (fresh 1 1))
   unranged-pool r a l = let w = pool-written xs r a l in (w .0, w .1 ∙ ap poolOf (g .left))
 
-  pub unranged-refused : (us : List (List ℕ)) (p : List ℕ) (vs : List (List ℕ)) → linesOf xs ≡ us ++ p ∷ vs → RefusedAt (replayed xs) (length us)
+  pub unranged-refused : (us : List (List ℕ)) (p : List ℕ) (vs : List (List ℕ)) → linesOf xs ≡ us ++ p ∷ vs
+      → RefusedAt (replayed xs) (length us) (earlyNumber (lineIn p))
   unranged-refused us p vs e =
       let f : List ℕ = unfinished (suc (length (linesOf xs))) (lastOf (split lineEnd xs)) in
       early-at us p vs (subst Early e (g .early)) (replayed xs) (f ++ heading)

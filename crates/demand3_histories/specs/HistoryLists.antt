@@ -4,11 +4,12 @@
 --   earlyNumber l           the refusal number of a line before the accepted range line
 --   Early ps                every one of these lines is refused
 --   printedEarly n ps       what is printed of such lines, the first being line n
---   numbersOf l ts          the refusal number or 0, the moved points and the number of moves of a line behind the range line: those that
---                           the first of the calls ts answered, if it is a change line
---   callsBehind l ts        the calls that are left for the lines after it
+--   answered ts             the refusal number or 0, the moved points and the number of moves that the first of the calls ts answered
+--   numbersOf l ts          what a line behind the range line prints: answered ts, if it is a change line
+--   callsBehind l ts        the calls that are left for the lines after it: all but the first (later ts), if it is a change line
 --   printedCalls n ps ts    what is printed of the lines ps, the calls ts being those of their change lines
---   placesLent              the list that is lent to every change line
+--   blankPlace, placesLent  a blank place, and the list that is lent to every change line
+--   callOf k, called l cs   a change as a call, a line in front of later calls
 --   callsOfLines ps         the change lines of ps as calls
 --   Ranged xs, Unranged xs  a text with an accepted range line, and one without
 --   HistoryDemand3 xs       what holds of a text
@@ -80,9 +81,12 @@ abbrev pub printedCalls : ℕ → List (List ℕ) → List Step → List ℕ
 printedCalls n [] ts = []
 printedCalls n (p ∷ ps) ts = fields (n ∷ numbersOf (lineIn p) ts) ++ printedCalls (suc n) ps (callsBehind (lineIn p) ts)
 
+abbrev pub blankPlace : Move
+blankPlace = record { start = 0; length = 0; from = 0; to = 0 }
+
 -- 'Its list has 4,096 places.'
 abbrev pub placesLent : List Move
-placesLent = replicate 4096 (record { start = 0; length = 0; from = 0; to = 0 })
+placesLent = replicate 4096 blankPlace
 
 abbrev pub callOf : Change → Call
 callOf k = record { change = k; lent = placesLent }
