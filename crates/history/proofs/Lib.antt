@@ -9,7 +9,6 @@ pub mod LineLimits
 pub mod TextLines
 pub mod ReplayLaws
 pub mod PrintedLines
-pub mod HistoryLists
 pub mod AppliedLines
 pub mod ReplayBounds
 pub mod TextParts

@@ -58,7 +58,7 @@ lineEnds-fields ns =
 -- ---- lines
 
 -- a line is printed, and then what follows
-lineEnds-then : (ns xs : List ℕ) → lineEnds (fields ns ++ xs) ≡ suc (lineEnds xs)
+pub lineEnds-then : (ns xs : List ℕ) → lineEnds (fields ns ++ xs) ≡ suc (lineEnds xs)
 lineEnds-then ns xs = omega (arith, count-append lineEnd (fields ns) xs, lineEnds-fields ns)
 
 lineEnds-rows : (is : List Interval) → lineEnds (printedRows is) ≡ length is

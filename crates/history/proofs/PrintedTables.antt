@@ -34,7 +34,7 @@ module _ (p : Pool) (v : ValidPool p) where
   abbrev pub rowsOf : List ℕ
   rowsOf = printedRows (intervalRows (p .starts) (p .owners) (p .range) 0 (p .intervals))
 
-  table-rows : heading ++ rowsOf ≡ printedTable (stateOf p)
+  pub table-rows : heading ++ rowsOf ≡ printedTable (stateOf p)
   unfolding stateOf
   table-rows = ap (λ is. heading ++ printedRows is) (sym (intervals-rows (p .starts) (p .owners) (p .range) (p .intervals) (valid-coalesced p v) (valid-covers p v)))
 

@@ -13,24 +13,17 @@
 --   spaced ns           numbers as printed, with one space between
 --   printedLines h n ps what `slices` prints of the lines ps, without the table
 --   unfinished n p      what it prints of a last line n with no line end
---   callsIn ps          the change lines of ps as calls of demand 3
---   stateAfter s ks     the state after the calls ks
---   Begun ps, Told ps   what holds of the lines of every text
 use mathlib.Core.Path.{_≡_}
-use mathlib.Core.Bool.{true, false, cond}
+use mathlib.Core.Bool.{cond}
 use mathlib.Core.List.{List, [], _∷_, _++_}
 use Prim.Native.Nat.{ℕ, suc, _+_}
 use lib.Dec.{ltb}
 use lib.ListN.{length}
-use Rattle.slicing.specs.Changes.{State, fresh, Change, add, remove, resize, change}
-use Rattle.slicing.specs.Demand3.{Call, Demand3}
-use Rattle.slicing.specs.Ledger.{blank}
+use Rattle.slicing.specs.Changes.{State}
 use Rattle.slicing.specs.Runs.{count}
-use Rattle.history.specs.declared.lines.LineAnswer.{LineAnswer}
-use Rattle.history.specs.declared.lines.LineAnswer.the-variants.{Range, Add, Remove, Resize, Refused}
 use Rattle.history.specs.Text.{lineEnd, space, split}
-use Rattle.history.specs.Lines.{farRange, lineIn}
-use Rattle.history.specs.Replay.{Reading, start, places, applied, decimal, fields, printedLine}
+use Rattle.history.specs.Lines.{lineIn}
+use Rattle.history.specs.Replay.{Reading, start, applied, decimal, fields, printedLine}
 
 -- ---- lines
 
@@ -113,47 +106,3 @@ printedLines h n (p ∷ ps) = printedLine n (applied h (lineIn p)) ++ printedLin
 abbrev pub unfinished : ℕ → List ℕ → List ℕ
 unfinished n [] = []
 unfinished n (b ∷ bs) = fields (n ∷ 1 ∷ 0 ∷ 0 ∷ [])
-
--- ---- calls
-
--- the program's list is lent to every change
-abbrev pub callWith : Change → Call
-callWith k = record { change = k; lent = places }
-
--- a line in front of later calls
-abbrev pub called : LineAnswer → List Call → List Call
-called (Refused n) ks = ks
-called (Range R M) ks = ks
-called (Add d c) ks = callWith (add d c) ∷ ks
-called (Remove d) ks = callWith (remove d) ∷ ks
-called (Resize d c) ks = callWith (resize d c) ∷ ks
-
--- accepted or refused by the pool, in their order
-abbrev pub callsIn : List (List ℕ) → List Call
-callsIn [] = []
-callsIn (p ∷ ps) = called (lineIn p) (callsIn ps)
-
--- each call gets the pool that the last one left
-abbrev pub stateAfter : State → List Call → State
-stateAfter s [] = s
-stateAfter s (k ∷ ks) = stateAfter (change s (k .lent) (k .change) .state) ks
-
--- lines with an accepted range line: all before it are refused, and those behind it are a list of calls as demand 3 has it
-pub record Begun (ps : List (List ℕ)) : Type 0 where
-  pub front : List (List ℕ)
-  pub line : List ℕ
-  pub back : List (List ℕ)
-  pub parts : ps ≡ front ++ line ∷ back
-  pub refused : acceptedLines start front ≡ []
-  pub unread : readAll start front ≡ start
-  pub range : ℕ
-  pub limit : ℕ
-  pub ranged : lineIn line ≡ Range range limit
-  pub fits : farRange range limit ≡ false
-  pub claim : Demand3 range limit (fresh range limit) blank (callsIn back)
-  pub reading : readAll start ps ≡ record { begun = true; pool = stateAfter (fresh range limit) (callsIn back) }
-
--- lines none of which is accepted, or such lines
-pub data Told (ps : List (List ℕ)) : Type 0 where
-  never : acceptedLines start ps ≡ [] → readAll start ps ≡ start → Told ps
-  begun : Begun ps → Told ps

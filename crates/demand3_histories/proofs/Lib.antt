@@ -1,0 +1,2 @@
+pub mod HistoryLists
+pub mod Sentences

@@ -1,0 +1,1 @@
+// Demand 3 of every history text, and no code: see specs/ and proofs/.
