@@ -7,16 +7,16 @@
 --   demand3-exports    the theorem
 use mathlib.Core.Path.{_≡_, refl, sym, ap, _∙_, subst}
 use mathlib.Core.Bool.{Bool, true, false, cond, _||_, false≢true}
-use mathlib.Core.List.{List, [], _∷_, _++_, map}
+use mathlib.Core.List.{List, [], _∷_, _++_}
 use Prim.Native.Nat.{ℕ, _*_, _≤_, _<_}
 use native.Mathlib.Omega.{arith}
-use lib.Dec.{eqb, ltb}
+use lib.Dec.{ltb}
 use lib.ListN.{length, take, drop}
 use lib.Seq.{take-append-seam, drop-at}
 use borrow.Author.Tests.{ne-eqb, ltb-true, ltb-false}
 use Rattle.slicing.specs.Changes.{fresh, Change, Outcome, change}
 use Rattle.slicing.specs.Demand3.{written}
-use Rattle.slicing.specs.Ledger.{Ledger, blank, feed}
+use Rattle.slicing.specs.Ledger.{Ledger, blank}
 use Rattle.slicing.specs.Limits.{maxRange, maxLimit, outside}
 use Rattle.slicing.specs.Validity.{Valid}
 use Rattle.slicing.proofs.Changes.{outside-false, or-false}
@@ -27,13 +27,13 @@ use Rattle.placement.specs.Promises.{movesIn, flat}
 use Rattle.placement.specs.declared.Pool.{Pool}
 use Rattle.placement.proofs.WrittenMoves.{length-flat}
 use Rattle.move_lists.specs.Promises as Lists
-use Rattle.move_lists.specs.Promises.{rowOf}
 use Rattle.images.specs.Format.{imageOf, rangeIn, limitIn, stateIn, Image}
 use Rattle.images.specs.Promises as Images
 use Rattle.images.specs.RowBytes.{poolIn}
 use Rattle.images.proofs.ImageLaws.{image-imageOf}
 use Rattle.images.proofs.PoolsRead.{poolOf-stateIn}
-use Rattle.gorvyts.specs.Promises.{OnImage, unmarked, versioned, faulty, accepted, Checked, Stored, unstored, FreshStored, Moved, unmoved, movedAs, Changed}
+use Rattle.gorvyts.specs.Promises.{OnImage, unmarked, versioned, faulty, accepted, Checked, Stored, unstored, FreshStored}
+use Rattle.gorvyts.specs.Promises.{Moved, unmoved, movedAs, Changed}
 use Rattle.demand3.specs.CallLists.{feedStep}
 use Rattle.demand3.specs.ImageLedger.{ledgerIn}
 use Rattle.demand3.specs.Openings as Calls
@@ -133,10 +133,7 @@ module _ (R M : ℕ) (xs : List ℕ) (b : Ledger) (i : Image xs) (g : Ready R M 
       same = imageAfter-refused xs e n
 
       kept : Lists.Changed (poolIn xs) (stepOf xs e .lent) k (stepOf xs e .answer) (stepOf xs e .after)
-      kept =
-          subst
-          (λ (ys : List ℕ). Lists.Changed (poolIn xs) (map rowOf (movesIn list)) k (record { refusal = o .number; moved = 0; count = 0; pool = poolIn ys }) (map rowOf (movesIn list)))
-          (sym same) (changed-step xs i k list _ _ (refused-answer xs i k list n))
+      kept = changed-step xs i k list _ _ (refused-answer xs i k list (imageAfter xs e) same n)
 
   done-call : 3 ≤ length answer → o .number ≡ 0 → length new ≤ length next
       → Done R M xs b
@@ -160,7 +157,7 @@ module _ (R M : ℕ) (xs : List ℕ) (b : Ledger) (i : Image xs) (g : Ready R M 
       stored = λ y. ap length (sym same);
       rest = λ y. ap (λ (ys : List ℕ). ys ++ drop (length ys) next) (sym same);
       fits = λ y. omega (arith, f, ap length same);
-      listRest = λ y. drop-at (flat (written o)) (drop (4 * o .count) list) (4 * o .count) (length-flat (written o) ∙ ap (λ (n : ℕ). 4 * n) (length-written (stateIn xs) (i .sound .valid) (movesIn list) k));
+      listRest = λ y. drop-at (flat (written o)) (drop (4 * o .count) list) (4 * o .count) numbers;
       answerRest = λ y. refl;
     };
   }
@@ -176,15 +173,14 @@ module _ (R M : ℕ) (xs : List ℕ) (b : Ledger) (i : Image xs) (g : Ready R M 
       valid : Valid (o .state)
       valid = outcome-valid xs i k list
 
+      numbers : length (flat (written o)) ≡ 4 * o .count
+      numbers = length-flat (written o) ∙ ap (λ (n : ℕ). 4 * n) (length-written (stateIn xs) (i .sound .valid) (movesIn list) k)
+
       same : imageAfter xs e ≡ new
       same = take-append-seam new (drop (length new) next)
 
       kept : Lists.Changed (poolIn xs) (stepOf xs e .lent) k (stepOf xs e .answer) (stepOf xs e .after)
-      kept =
-          subst
-          (λ (ys : List ℕ). Lists.Changed (poolIn xs) (map rowOf (movesIn list)) k (record { refusal = 0; moved = o .moved; count = o .count; pool = poolIn ys })
-          (map rowOf (movesIn (flat (written o) ++ drop (4 * o .count) list))))
-          (sym same) (changed-step xs i k list _ _ (accepted-answer xs i k list z))
+      kept = changed-step xs i k list _ _ (accepted-answer xs i k list (imageAfter xs e) same z)
 
   moved : 3 ≤ length answer → Done R M xs b (call (movedAs k next list answer (stateIn xs)))
   moved h = go (ltb 0 (o .number)) (ltb (length next) (length new)) refl refl
@@ -254,7 +250,8 @@ opened-fresh R M buffer answer r f z =
         subst (λ (xs : List ℕ). Opened R M xs blank) q
         (record {
           image = image-imageOf (fresh R M) w;
-          opening = subst (λ (p : Pool). Calls.Opening R M p blank) (sym (poolIn-imageOf (fresh R M) w)) (Starts.opens-fresh R M (s .0) (s .1) (l .0) (l .1));
+          opening = subst (λ (p : Pool). Calls.Opening R M p blank) (sym (poolIn-imageOf (fresh R M) w))
+              (Starts.opens-fresh R M (s .0) (s .1) (l .0) (l .1));
         })
 
 opened-checked : (xs : List ℕ) (r : ℕ) → Checked xs r → r ≡ 0 → Opened (rangeIn xs) (limitIn xs) xs (ledgerIn xs)
@@ -273,7 +270,8 @@ opening-calls R M xs b (checked-image {r = r} c z) = opened-checked xs r c z
 
 -- ---- the whole list
 
-exports-from : (R M : ℕ) (es : List Exported) (xs : List ℕ) (b : Ledger) → Image xs → Ready R M (poolIn xs) b → Kept xs es → ExportedDemand3 R M xs b es
+exports-from : (R M : ℕ) (es : List Exported) (xs : List ℕ) (b : Ledger) → Image xs → Ready R M (poolIn xs) b → Kept xs es
+    → ExportedDemand3 R M xs b es
 exports-from R M [] xs b i g k = (i, agreement-pool R M (poolIn xs) b (g .valid) (g .agrees))
 exports-from R M (e ∷ es) xs b i g k =
     let d : Done R M xs b e = done R M xs b i g (e .change) (e .next) (e .list) (e .answer) (e .left) (k .0) in (

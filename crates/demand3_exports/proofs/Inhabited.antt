@@ -6,7 +6,7 @@
 --   Asked, askedOf es                     the arguments of calls
 --   Played xs cs                          calls cs answered from the image xs on
 --   played                                from every opening
-use mathlib.Core.Path.{_≡_, refl, sym, ap, _∙_, subst}
+use mathlib.Core.Path.{_≡_, refl, sym, ap, _∙_}
 use mathlib.Core.Bool.{Bool, false, cond, _||_}
 use mathlib.Core.List.{List, [], _∷_, _++_}
 use Prim.Native.Nat.{ℕ, _≤_}

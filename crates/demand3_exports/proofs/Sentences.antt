@@ -15,7 +15,7 @@
 use mathlib.Core.Path.{_≡_, refl, sym, ap, _∙_}
 use mathlib.Core.Bool.{Bool, true, false, not, false≢true}
 use mathlib.Core.List.{List, [], _∷_, _++_, map}
-use Prim.Native.Nat.{ℕ, zero, suc, _+_, _*_, _≤_, _<_}
+use Prim.Native.Nat.{ℕ, zero, suc, _*_, _≤_, _<_}
 use native.Mathlib.Omega.{arith}
 use lib.Dec.{eqb}
 use lib.ListN.{length, take, drop, List·getD-append}
@@ -97,8 +97,8 @@ end-in : (R M : ℕ) (es : List Exported) (xs : List ℕ) (b : Ledger) → Expor
 end-in R M [] xs b d = d
 end-in R M (e ∷ es) xs b d = end-in R M es (imageAfter xs e) (feedStep b (stepOf xs e)) (d .3)
 
-pub facts-at : (R M : ℕ) (xs : List ℕ) (b : Ledger) → Opening R M xs b → (us : List Exported) (e : Exported) (vs : List Exported) → Kept xs (us ++ e ∷ vs)
-    → Facts R M (imageLeft xs us) (ledgerAfter b xs us) e
+pub facts-at : (R M : ℕ) (xs : List ℕ) (b : Ledger) → Opening R M xs b → (us : List Exported) (e : Exported) (vs : List Exported)
+    → Kept xs (us ++ e ∷ vs) → Facts R M (imageLeft xs us) (ledgerAfter b xs us) e
 facts-at R M xs b s us e vs k = facts-in R M us e vs xs b (demand3-exports R M xs b s (us ++ e ∷ vs) k)
 
 -- ---- the image that a list leaves, after no call too
@@ -187,7 +187,8 @@ module _ (R M : ℕ) (was : List ℕ) (old : Ledger) (e : Exported) (facts : Fac
 
   -- 'Each call's refusal number or 0, its table and its moves in their order are those that One change and Where a call stops give.'
   pub as-the-rules : (e .left .number ≡ 17 → ⊥)
-      → (e .left .number ≡ o .number) × (stateIn is ≡ o .state) × (ms ≡ Rules.written o) × (at (e .left .answer) 1 ≡ o .moved) × (at (e .left .answer) 2 ≡ o .count)
+      → (e .left .number ≡ o .number) × (stateIn is ≡ o .state) × (ms ≡ Rules.written o)
+      × (at (e .left .answer) 1 ≡ o .moved) × (at (e .left .answer) 2 ≡ o .count)
   as-the-rules n =
       let r = Calls.as-the-rules R M (poolIn was) old (stepOf was e) (calls n) in
       let q = same-outcome was (facts .got) (e .change) (e .list) in (
@@ -219,7 +220,8 @@ module _ (R M : ℕ) (was : List ℕ) (old : Ledger) (e : Exported) (facts : Fac
     other y = omega (arith, z, y)
 
     -- the new image stands in the buffer from the first byte on, and the answer has its length
-    pub image-written : (at (e .left .answer) 0 ≡ length is) × (length is ≤ length (e .next)) × ((j : ℕ) → j < length is → at (e .left .image) j ≡ at is j)
+    pub image-written : (at (e .left .answer) 0 ≡ length is) × (length is ≤ length (e .next))
+        × ((j : ℕ) → j < length is → at (e .left .image) j ≡ at is j)
     image-written = (
       claim .stored z,
       claim .fits z,
@@ -229,7 +231,8 @@ module _ (R M : ℕ) (was : List ℕ) (old : Ledger) (e : Exported) (facts : Fac
     -- 'Bytes past a written image stay.'
     pub image-rest : (j : ℕ) → length is ≤ j → at (e .left .image) j ≡ at (e .next) j
     image-rest j l =
-        Calls.same-behind (length is) (e .left .image) (e .next) (ap (drop (length is)) (claim .rest z) ∙ drop-append-seam is (drop (length is) (e .next))) j 0 l
+        Calls.same-behind (length is) (e .left .image) (e .next)
+        (ap (drop (length is)) (claim .rest z) ∙ drop-append-seam is (drop (length is) (e .next))) j 0 l
 
     -- 'List places after them stay.'
     pub list-rest : (j : ℕ) → 4 * at (e .left .answer) 2 ≤ j → at (e .left .list) j ≡ at (e .list) j

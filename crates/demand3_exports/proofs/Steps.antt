@@ -22,7 +22,7 @@ use Rattle.slicing.specs.SixSteps as Six
 use Rattle.slicing.specs.SixSteps.{Turn, turns, newTable, moves}
 use Rattle.slicing.specs.Validity.{Valid}
 use Rattle.slicing.proofs.Changes.{valid-change, change-refused}
-use Rattle.placement.specs.Pools.{stateOf, poolOf, ValidPool}
+use Rattle.placement.specs.Pools.{stateOf, poolOf}
 use Rattle.placement.specs.Promises.{movesIn, flat}
 use Rattle.placement.specs.declared.ChangeAnswer.{ChangeAnswer}
 use Rattle.move_lists.specs.Promises.{moveOf, rowOf, Answered, Changed}
@@ -88,7 +88,8 @@ map-drop f zero l = refl
 map-drop f (suc n) [] = refl
 map-drop f (suc n) (x ∷ l) = map-drop f n l
 
-rows-after : (ms : List Six.Move) (n : ℕ) (l : List ℕ) → map rowOf (movesIn (flat ms ++ drop (4 * n) l)) ≡ map rowOf ms ++ drop n (map rowOf (movesIn l))
+rows-after : (ms : List Six.Move) (n : ℕ) (l : List ℕ)
+    → map rowOf (movesIn (flat ms ++ drop (4 * n) l)) ≡ map rowOf ms ++ drop n (map rowOf (movesIn l))
 rows-after ms n l =
     ap (map rowOf) (movesIn-flat ms (drop (4 * n) l)) ∙ map-append rowOf ms (movesIn (drop (4 * n) l))
     ∙ ap (λ (ns : List Move). map rowOf ms ++ ns) (ap (map rowOf) (movesIn-drop n l) ∙ map-drop rowOf n (movesIn l))
@@ -116,27 +117,29 @@ module _ (xs : List ℕ) (i : Image xs) (k : Change) (l : List ℕ) where
     invalid = λ n. absurd (n (poolIn-valid xs (i .sound .valid)));
   }
 
-  pub refused-answer : 1 ≤ o .number → Answered lent o (poolOf (o .state)) (record { refusal = o .number; moved = 0; count = 0; pool = poolIn xs }) lent
-  refused-answer n =
+  -- ys is the image for the next call
+  pub refused-answer : (ys : List ℕ) → ys ≡ xs → 1 ≤ o .number
+      → Answered lent o (poolOf (o .state)) (record { refusal = o .number; moved = 0; count = 0; pool = poolIn ys }) lent
+  refused-answer ys e n =
       let u = change-refused (stateIn xs) (movesIn l) k n in
       record {
         number = refl;
         moved = sym (u .moved);
         count = sym (u .count);
-        pool = sym (ap poolOf (u .state) ∙ poolOf-stateIn xs (i .sound .valid));
+        pool = ap poolIn e ∙ sym (ap poolOf (u .state) ∙ poolOf-stateIn xs (i .sound .valid));
         list = sym (ap (λ (m : ℕ). map rowOf (take m (o .list)) ++ drop m lent) (u .count));
       }
 
   pub outcome-valid : Valid (o .state)
   outcome-valid = valid-change (stateIn xs) (i .sound .valid) (movesIn l) k
 
-  pub accepted-answer : o .number ≡ 0
-      → Answered lent o (poolOf (o .state)) (record { refusal = 0; moved = o .moved; count = o .count; pool = poolIn (imageOf (o .state)) })
+  pub accepted-answer : (ys : List ℕ) → ys ≡ imageOf (o .state) → o .number ≡ 0
+      → Answered lent o (poolOf (o .state)) (record { refusal = 0; moved = o .moved; count = o .count; pool = poolIn ys })
       (map rowOf (movesIn (flat (written o) ++ drop (4 * o .count) l)))
-  accepted-answer z = record {
+  accepted-answer ys e z = record {
     number = sym z;
     moved = refl;
     count = refl;
-    pool = poolIn-imageOf (o .state) outcome-valid;
+    pool = ap poolIn e ∙ poolIn-imageOf (o .state) outcome-valid;
     list = rows-after (written o) (o .count) l;
   }
