@@ -50,7 +50,7 @@ use Rattle.demand3.specs.CallLists.{Step, Call, callsOf, Kept, feedStep, poolAf
 use Rattle.demand3.specs.Demand3.{Agreement, Demand3}
 use Rattle.demand3.specs.Openings.{Opening}
 use Rattle.demand3.specs.Points.{countOf, endOf, OneInterval, holds}
-use Rattle.demand3.proofs.Sentences.{refused-stays, one-owner, exact-share, moved-count}
+use Rattle.demand3.proofs.Sentences.{Facts, facts-at, refused-stays, one-owner, exact-share, moved-count}
 use Rattle.demand3_histories.specs.HistoryLists.{earlyNumber, Early, printedEarly, numbersOf, callsBehind, later, printedCalls, blankPlace, placesLent, callOf, called, callsOfLines, Ranged, Unranged}
 use Rattle.demand3_histories.proofs.HistoryLists.{opens}
 
@@ -422,6 +422,9 @@ module _ {xs : List ℕ} (g : Ranged xs) where
     abbrev new : Ledger
     new = feedStep (ledgerAfter blank us) t
 
+    facts : Facts (g .range) (g .limit) (poolAfter first us) old t
+    facts = facts-at (g .range) (g .limit) first blank opening us t vs kept
+
     -- 'Its list has 4,096 places.'
     pub places-lent : length (t .lent) ≡ 4096
     places-lent =
@@ -429,19 +432,19 @@ module _ {xs : List ℕ} (g : Ranged xs) where
 
     -- 'A refused line changes nothing'
     pub refused-call : 1 ≤ t .answer .refusal → (t .answer .pool ≡ poolAfter first us) × (t .answer .moved ≡ 0) × (t .answer .count ≡ 0)
-    refused-call z = let r = refused-stays (g .range) (g .limit) first blank opening us t vs kept z in (r .0, r .2, r .3)
+    refused-call z = let r = refused-stays (g .range) (g .limit) (poolAfter first us) old t facts z in (r .0, r .2, r .3)
 
     -- of all devices one alone holds a point, and it is the one in the book
     pub one-owner-each : 1 ≤ length (new .entries) → (x : ℕ) → x < g .range → (d : ℕ) → holds (t .answer .pool) d x ≡ eqb d (new .owner x)
-    one-owner-each = one-owner (g .range) (g .limit) first blank opening us t vs kept
+    one-owner-each = one-owner (g .range) (g .limit) (t .answer .pool) new (facts .agrees)
 
     pub exact-shares : 1 ≤ length (new .entries) → (d : ℕ) → countOf (holds (t .answer .pool) d) (g .range) ≡ shareOf (g .range) (new .entries) d
-    exact-shares = exact-share (g .range) (g .limit) first blank opening us t vs kept
+    exact-shares = exact-share (g .range) (g .limit) (t .answer .pool) new (facts .agrees)
 
     -- the moved points are the points whose owner changed
     pub moved-points : t .answer .refusal ≡ 0 → 1 ≤ length (old .entries)
         → t .answer .moved ≡ countOf (λ x. not (eqb (old .owner x) (new .owner x))) (g .range)
-    moved-points z n = moved-count (g .range) (g .limit) first blank opening us t vs kept z n .0
+    moved-points z n = moved-count (g .range) (g .limit) (poolAfter first us) old t facts z n .0
 
   -- a printed change line: refused, its number and zeros; accepted, 0 and the number of points whose owner changed
   module _ {i j : ℕ} {k : Change} (c : CallAt g i j k) where

@@ -41,7 +41,7 @@ module _ (s : State) (v : Valid s) (lent : List Rules.Move) (k : Change) where
   count-fits : change s lent k .count ≤ length lent
   count-fits = claim .fits
 
-  length-written : length (written (change s lent k)) ≡ change s lent k .count
+  pub length-written : length (written (change s lent k)) ≡ change s lent k .count
   length-written = claim .counted
 
 -- what holds of a pool that is valid, and of one that is not, where it can be tested

@@ -20,7 +20,7 @@ use Rattle.placement.proofs.Calls.{length-movesIn}
 use Rattle.move_lists.specs.Promises.{rowOf}
 use Rattle.move_lists.specs.declared.Move.{Move}
 
-movesIn-flat : (ms : List Rules.Move) (xs : List ℕ) → movesIn (flat ms ++ xs) ≡ ms ++ movesIn xs
+pub movesIn-flat : (ms : List Rules.Move) (xs : List ℕ) → movesIn (flat ms ++ xs) ≡ ms ++ movesIn xs
 movesIn-flat [] xs = refl
 movesIn-flat (m ∷ ms) xs = ap (λ ns. m ∷ ns) (movesIn-flat ms xs)
 
@@ -47,7 +47,7 @@ getD-movesIn (a ∷ b ∷ c ∷ d ∷ xs) (suc i) h =
         → getD (movesIn xs) i (Rules.move 0 0 0 0) ≡ moveFrom (a ∷ b ∷ c ∷ d ∷ xs) p q r s
     go p q r s e f g k ih = rw (e, f, g, k) ih
 
-map-append : {A B : Type 0} (f : A → B) (xs ys : List A) → map f (xs ++ ys) ≡ map f xs ++ map f ys
+pub map-append : {A B : Type 0} (f : A → B) (xs ys : List A) → map f (xs ++ ys) ≡ map f xs ++ map f ys
 map-append f [] ys = refl
 map-append f (x ∷ xs) ys = ap (λ zs. f x ∷ zs) (map-append f xs ys)
 

@@ -1,0 +1,4 @@
+pub mod Steps
+pub mod ExportedDemand3
+pub mod Inhabited
+pub mod Sentences
