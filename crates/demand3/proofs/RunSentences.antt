@@ -6,20 +6,16 @@
 --   run-demand3          demand 3 holds of them
 --   run-agrees           the pool answered and the ledger fed with the answers agree
 use mathlib.Core.Path.{_≡_, refl, sym, ap, _∙_, subst}
-use mathlib.Core.List.{List, [], _∷_}
+use mathlib.Core.List.{List}
 use Prim.Native.Nat.{ℕ, zero, suc}
 use native.Mathlib.Omega.{arith}
 use Rattle.placement.specs.declared.Pool.{Pool}
 use Rattle.placement.specs.declared.PoolAnswer.{PoolAnswer}
 use Rattle.slicing.specs.Ledger.{Ledger}
-use Rattle.demand3.specs.CallLists.{Step, callsOf, Kept, feedStep, poolAfter, ledgerAfter}
+use Rattle.demand3.specs.CallLists.{callsOf, Kept, ledgerAfter}
 use Rattle.demand3.specs.Demand3.{Agreement, Demand3}
 use Rattle.demand3.specs.Promises.{callsIn, Ran, Opened}
-
--- pool and ledger agree after the last call
-agreement-end : (R M : ℕ) (ts : List Step) (p : Pool) (b : Ledger) → Demand3 R M p b ts → Agreement R M (poolAfter p ts) (ledgerAfter b ts)
-agreement-end R M [] p b d = d
-agreement-end R M (t ∷ ts) p b d = agreement-end R M ts (t .answer .pool) (feedStep b t) (d .2)
+use Rattle.demand3.proofs.Sentences.{agreement-end}
 
 module _ (Made : PoolAnswer → Type 0) (R M : ℕ) (b : Ledger) (xs : List ℕ) (n : ℕ) (r : PoolAnswer) (o : Opened Made R M b xs n r) where
   pub run-made : Made (o .first)

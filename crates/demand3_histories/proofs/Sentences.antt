@@ -50,7 +50,7 @@ use Rattle.demand3.specs.CallLists.{Step, Call, callsOf, Kept, feedStep, poolAf
 use Rattle.demand3.specs.Demand3.{Agreement, Demand3}
 use Rattle.demand3.specs.Openings.{Opening}
 use Rattle.demand3.specs.Points.{countOf, endOf, OneInterval, holds}
-use Rattle.demand3.proofs.Sentences.{Facts, facts-at, refused-stays, one-owner, exact-share, moved-count}
+use Rattle.demand3.proofs.Sentences.{agreement-end, Facts, facts-at, refused-stays, one-owner, exact-share, moved-count}
 use Rattle.demand3_histories.specs.HistoryLists.{earlyNumber, Early, printedEarly, numbersOf, callsBehind, later, printedCalls, blankPlace, placesLent, callOf, called, callsOfLines, Ranged, Unranged}
 use Rattle.demand3_histories.proofs.HistoryLists.{opens}
 
@@ -211,10 +211,6 @@ module _ (xs : List ℕ) where
       (ap (λ (s : PoolAnswer). s .refusal) e, ap (λ (s : PoolAnswer). s .pool) e)
 
 -- ---- a text with an accepted range line
-
-agreement-end : (R M : ℕ) (ts : List Step) (p : Pool) (b : Ledger) → Demand3 R M p b ts → Agreement R M (poolAfter p ts) (ledgerAfter b ts)
-agreement-end R M [] p b d = d
-agreement-end R M (t ∷ ts) p b d = agreement-end R M ts (t .answer .pool) (feedStep b t) (d .2)
 
 -- every call of lines has the list of 4,096 places
 abbrev Lent : List Call → Type 0

@@ -1,17 +1,15 @@
 // Runs the histories that its arguments name, and compares each transcript with the one that is expected:
 // for the argument NAME the file NAME.in has the history and NAME.out what `slices` prints of it. Prints
-// each name, and `same`, `different`, or `missing` where one of the two files cannot be opened. The files
+// each name, and `same`, `different`, or `missing` where one of the two files cannot be read. The files
 // are made from test vectors by tools/history_vectors.py.
 use history::ROOM;
 use history::TranscriptAnswer;
 use libc::STDOUT_FILENO;
+use streams::Input;
 ghost use Prim.Native.Nat.{_≤_};
 ghost use lib.ListN.{length};
 ghost use Rattle.io.specs.Counts.{Counts};
-
-// One byte more than the longest history. Of a longer file only these bytes are read: what is printed of
-// it, `too long`, is printed of them as well.
-const MOST_TEXT: usize = 65537;
+ghost use Rattle.streams.specs.Inputs.{Within};
 
 // One byte more than the longest transcript that is compared. A file that has so many is different.
 const MOST_EXPECTED: usize = 1048577;
@@ -46,13 +44,13 @@ fn open(name: &[u8], ending: &[u8]) -> i32 {
     os::open_read(&path[..end])
 }
 
-// Reads a file, or as much of it as there is room for, and closes it; the number of bytes.
-fn read(fd: i32, bytes: &mut [u8]) -> usize
-    ensures { λ r. ⌜ Counts r (now (bytes .exit)) ⌝ }
+// Reads a file, or as much of it as there is room for, and closes it.
+fn read(fd: i32, bytes: &mut [u8]) -> Input
+    ensures { λ r. ⌜ Within r (now (bytes .exit)) ⌝ }
 {
-    let n = io::read_full(fd, &mut *bytes);
+    let input = streams::read_to_end(fd, &mut *bytes);
     libc::close(fd);
-    n
+    input
 }
 
 // Whether the first n bytes are the same.
@@ -91,12 +89,16 @@ fn compare(name: &[u8], text: &mut [u8], out: &mut [u8], expected: &mut [u8]) ->
     if text_file < 0 {
         return Verdict::Missing;
     }
-    let size = read(text_file, &mut *text);
+    let Input::Read(size) = read(text_file, &mut *text) else {
+        return Verdict::Missing;
+    };
     let expected_file = open(name, b".out");
     if expected_file < 0 {
         return Verdict::Missing;
     }
-    let due = read(expected_file, &mut *expected);
+    let Input::Read(due) = read(expected_file, &mut *expected) else {
+        return Verdict::Missing;
+    };
     if due == expected.len() {
         return Verdict::Different;
     }
@@ -130,7 +132,7 @@ fn run(i: usize, text: &mut [u8], out: &mut [u8], expected: &mut [u8]) {
 }
 
 fn main() {
-    let mut text = [0u8; MOST_TEXT];
+    let mut text = history_streams::text_room();
     let mut expected = [0u8; MOST_EXPECTED];
     let mut out = [0u8; ROOM];
     let count = os::arg_count();

@@ -1,37 +1,28 @@
 // Reads a history from standard input, and prints its transcript: for each line its number, the refusal
 // number or 0, the moved points and the number of moves; then the table. What is printed is decided by
-// `history`.
-use history::ROOM;
-use history::TranscriptAnswer;
+// `history`. A history that could not be read, of which nothing is printed, and a transcript that could
+// not be written whole are told in a line on standard error.
+use history_streams::Outcome;
 use libc::STDIN_FILENO;
 use libc::STDOUT_FILENO;
-ghost use mathlib.Core.Path.{_≡_};
-ghost use lib.ListN.{length};
 
-// One byte more than the longest history, so that a longer one is seen.
-const MOST: usize = 65537;
-
-// ROOM zeros.
-fn room() -> [u8; ROOM]
-    ensures { λ r. ⌜ 3145728 ≡ length r ⌝ }
-{
-    [0; ROOM]
-}
-
-fn print(text: &[u8], out: &mut [u8]) {
-    match history::transcript(text, &mut *out) {
-        TranscriptAnswer::Printed(n) => {
-            if n <= out.len() {
-                io::write_all(STDOUT_FILENO, &out[..n]);
-            }
-        }
-        TranscriptAnswer::Refused(refusal) => {}
-    }
+fn tell_unwritten() {
+    os::fail(b"slices: the transcript could not be written");
 }
 
 fn main() {
-    let mut text = [0u8; MOST];
-    let mut out = room();
-    let n = io::read_full(STDIN_FILENO, &mut text);
-    print(&text[..n], &mut out);
+    match history_streams::transcribe(STDIN_FILENO, STDOUT_FILENO) {
+        Outcome::Printed => {
+            // A file system may tell only here that it has no room.
+            if libc::close(STDOUT_FILENO) < 0 {
+                tell_unwritten();
+            }
+        }
+        Outcome::Unread => {
+            os::fail(b"slices: the history could not be read");
+        }
+        Outcome::Unwritten => {
+            tell_unwritten();
+        }
+    }
 }

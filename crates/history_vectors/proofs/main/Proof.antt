@@ -1,6 +1,7 @@
 -- `history_vectors::main` is safe and ends. The loop's invariant: the buffers keep their lengths. The measure is the number of arguments that are left.
 use mathlib.Core.Path.{_≡_}
 use Prim.Native.Nat.{ℕ, _-_}
+use native.Mathlib.Omega.{arith}
 use lib.ListN.{length, length-replicate}
 use borrow.Author.Needs.{needs}
 use Rattle.history_vectors.proofs.main.Statement.{statement}
@@ -13,7 +14,7 @@ abbrev μ-loop : tie.MeasureT-loop
 μ-loop text₀ expected₀ out₀ count i₀ text expected out i = count - i
 
 loop-holds : tie.Need-loop-holds Inv-loop μ-loop
-loop-holds c = (length-replicate {0} {A = ℕ} 65537 0, length-replicate {0} {A = ℕ} 1048577 0, length-replicate {0} {A = ℕ} 3145728 0)
+loop-holds c = (omega arith, length-replicate {0} {A = ℕ} 1048577 0, length-replicate {0} {A = ℕ} 3145728 0)
 
 pub main-spec : {M : Type 1} → statement M
 main-spec =
@@ -21,6 +22,7 @@ main-spec =
     (tie.spec
     Inv-loop
     μ-loop
+    (λ c κs. search needs)
     (λ c κs. search needs)
     loop-holds
     (λ c. search needs)
