@@ -121,9 +121,9 @@ fn write(list: &mut [Move], draft: Draft) -> ChangeAnswer
     ensures { λ r. ⌜ (r ≡ draft .answer) × (now (list .exit) ≡ take (draft .answer .count) (draft .rows) ++ drop (draft .answer .count) (now (list .entry))) ⌝ }
 {
     let rows = moves_of(draft);
-    let n = draft.answer.count;
+    let count = draft.answer.count;
     let mut i = 0;
-    while i < n {
+    while i < count {
         list[i] = rows[i];
         i += 1;
     }

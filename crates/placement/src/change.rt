@@ -130,6 +130,9 @@ const MAX_ID: u64 = 65535;
 
 const MAX_CAPACITY: u64 = 1000000;
 
+// The refusal of a remove and of a resize where the id is absent.
+const ABSENT: u32 = 5;
+
 // Whether x lies outside 1 to `most`.
 fn outside(most: u64, x: u64) -> bool
     ensures { λ r. ⌜ r ≡ Limits.outside most x ⌝ }
@@ -278,18 +281,18 @@ pub fn remove(pool: Pool, id: u64, list: &mut [u64]) -> ChangeAnswer
     if !admits_id(pool, id) {
         return refuse(pool, 2);
     }
-    let found = opened(pool, id);
+    let held = opened(pool, id);
     let n = pool.devices;
-    if !found.present {
-        return refuse(pool, 5);
+    if !held.present {
+        return refuse(pool, ABSENT);
     }
     if n <= 1 {
         return refuse(pool, 7);
     }
-    let ids = found.ids;
-    let capacities = found.capacities;
-    let next_ids = delete_row(&ids, found.row);
-    let next_capacities = delete_row(&capacities, found.row);
+    let ids = held.ids;
+    let capacities = held.capacities;
+    let next_ids = delete_row(&ids, held.row);
+    let next_capacities = delete_row(&capacities, held.row);
     settled(pool, n - 1, &next_ids, &next_capacities, &mut *list)
 }
 
@@ -303,7 +306,7 @@ pub fn resize(pool: Pool, id: u64, capacity: u64, list: &mut [u64]) -> ChangeAns
     let found = opened(pool, id);
     let n = pool.devices;
     if !found.present {
-        return refuse(pool, 5);
+        return refuse(pool, ABSENT);
     }
     let row = found.row;
     let ids = found.ids;

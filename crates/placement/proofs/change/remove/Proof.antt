@@ -8,7 +8,7 @@ use borrow.Author.Tests.{not-true, not-false}
 use Rattle.slicing.specs.Devices.{present, delete}
 use Rattle.slicing.specs.Limits.{maxId, outside}
 use Rattle.placement.specs.Pools.{stateOf, ValidPool}
-use Rattle.placement.proofs.Calls.{remove-two, remove-five, remove-seven, remove-settle}
+use Rattle.placement.proofs.Calls.{Refuses, remove-two, remove-five, remove-seven, remove-settle}
 use Rattle.placement.proofs.NextDevices.{Next, next-delete, next-ready}
 use Rattle.placement.proofs.OpenedPools.{row-below}
 use Rattle.placement.proofs.change.remove.Statement.{statement}
@@ -28,8 +28,9 @@ admitted c = rw (not-false (c .before .admits-id .result) (c .if1 .left)) at (c 
 
 returns-2 : tie.Need-returns-2
 returns-2 c =
+    let five : Refuses _ 5 _ = c .refuse2 .ensures in
     let o = c .before .before .before in
-    remove-five (admitted (o .before)) (c .refuse2 .ensures) (sym (o .opened .ensures .present) ∙ not-true (o .opened .result .present) (c .before .if2 .taken))
+    remove-five (admitted (o .before)) five (sym (o .opened .ensures .present) ∙ not-true (o .opened .result .present) (c .before .if2 .taken))
 
 -- past that check the device is there
 there : (c : tie.Else2) → c .before .before .opened .result .present ≡ true

@@ -48,17 +48,17 @@ next c =
     let o = held c .before .before in
     next-update (o .opened .ensures .rows) (start (o .before) .args .capacity) (admitted (o .before) .1) (o .opened .ensures .found (there (held c)))
 
-settled-requires : tie.Need-settled-requires
-settled-requires c κs =
-    let h = held (c .before) in
-    let o = h .before .before .opened .ensures in
-    next-ready (o .rows) (omega (arith, o .found (there h) .0)) (next (c .before))
-
 returns-3 : tie.Need-returns-3
 returns-3 c =
     let n = c .before .before .before .before in
     let o = held n .before .before in
     resize-settle (admitted (o .before)) (c .before .before .settled .ensures) (sym (o .opened .ensures .present) ∙ there (held n)) (next n)
+
+settled-requires : tie.Need-settled-requires
+settled-requires c κs =
+    let h = held (c .before) in
+    let o = h .before .before .opened .ensures in
+    next-ready (o .rows) (omega (arith, o .found (there h) .0)) (next (c .before))
 
 pub resize-spec : {M : Type 1} → statement M
 resize-spec =

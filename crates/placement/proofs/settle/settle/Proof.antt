@@ -36,7 +36,8 @@ returns-2 c =
     let o = c .before .before .before in
     planned-refused _ _ _ _ 9 refl (c .still2 .ensures .0) (c .still2 .ensures .1) refl (t .before .pre .valid .same)
     (λ lent l. plan-nine (t .before .pre) (t .turns-of .result) (t .turns-of .ensures .0) (w .new-table .result) (w .new-table .ensures .0)
-    (o .moves-of .result) (o .moves-of .ensures .0) (c .before .before .before .before .before .before .if1 .left) lent (omega (arith, c .before .if2 .taken)))
+    (o .moves-of .result) (o .moves-of .ensures .0) (c .before .before .before .before .before .before .if1 .left) lent
+    (omega (arith, c .before .if2 .taken, o .moves-of .ensures .1 .1 .0, t .turns-of .ensures .1 .0)))
 
 packed-requires : tie.Need-packed-requires
 packed-requires c κs =

@@ -17,7 +17,8 @@ add-sizes c =
     omega (arith, at-total (a .sizes .now) (a .labels .now) 0 (a .n) (a .n - 1) (omega arith) (omega arith))
 
 returns-2 : tie.Need-returns-2
-returns-2 c = pushed-more _ _ _ _ _ (c .before .before .before .before .before .pre .0) (c .before .before .before .if2 .taken) (c .before .if3 .taken)
+returns-2 c =
+    pushed-more _ _ _ _ _ (c .before .before .before .before .before .pre .0) (omega (arith, c .before .before .before .if2 .taken)) (c .before .if3 .taken)
 
 returns-3 : tie.Need-returns-3
 returns-3 c =
