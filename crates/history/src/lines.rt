@@ -14,6 +14,9 @@ ghost use Rattle.history.specs.Promises.{partAt};
 ghost use Rattle.history.specs.Text.{numberIn, capacityIn};
 ghost use Rattle.history.specs.declared.lines.LineAnswer.the-variants.{Range, Add, Resize};
 
+// Ids are 1 to this.
+const LARGEST_ID: u64 = 65535;
+
 // What a line says, or the number that refuses it.
 pub enum LineAnswer {
     Range(u64, u64),
@@ -89,7 +92,7 @@ fn add_line(first: &[u8], second: &[u8]) -> LineAnswer
     let CapacityAnswer::Thousandths(value) = answer else {
         return LineAnswer::Refused(refusal_of(answer));
     };
-    if outside(65535, id) {
+    if outside(LARGEST_ID, id) {
         return LineAnswer::Refused(2);
     }
     LineAnswer::Add(id, value)
@@ -111,7 +114,7 @@ fn remove_line(word: &[u8]) -> LineAnswer
     let Parsed::Number(id) = number(word) else {
         return LineAnswer::Refused(1);
     };
-    if outside(65535, id) {
+    if outside(LARGEST_ID, id) {
         return LineAnswer::Refused(2);
     }
     LineAnswer::Remove(id)

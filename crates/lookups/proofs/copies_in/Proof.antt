@@ -15,7 +15,7 @@ use Rattle.lookups.proofs.copies_in.Tie as tie
 returns : tie.Need-returns
 returns c =
     let a = c .before .before .args in
-    record { found = refuses-eleven _ (a .devices) (a .k) (a .counters) (c .refused .result) (rw (lt-ltb (a .k) 1 (c .before .if1 .taken))) (c .refused .ensures) }
+    record { found = refuses-eleven _ (a .devices) (a .k) (a .counters) (c .refused .result) (rw (lt-ltb (a .k) 1 (omega (arith, c .before .if1 .taken)))) (c .refused .ensures) }
 
 returns-2 : tie.Need-returns-2
 returns-2 c =
@@ -23,7 +23,7 @@ returns-2 c =
     let t = c .before in
     record {
       found = refuses-eleven _ (a .devices) (a .k) (a .counters) (c .refused2 .result)
-          (rw (le-ltb (a .k) 1 (t .before .if1 .left), lt-ltb 8 (a .k) (omega (arith, t .if2 .taken)))) (c .refused2 .ensures);
+          (rw (le-ltb (a .k) 1 (omega (arith, t .if2 .taken)), lt-ltb 8 (a .k) (omega (arith, t .if2 .taken)))) (c .refused2 .ensures);
     }
 
 returns-3 : tie.Need-returns-3

@@ -29,6 +29,14 @@ value-is u =
     capacity-known (u .answer .given .0 .0) (second (named u .before .before))
     (sym (u .answer .given .1) ∙ u .before .before .capacity .ensures .answer)
 
+returns-4 : tie.Need-returns-4
+returns-4 c =
+    let o = c .before in
+    let u = o .before .before in
+    pair-near Add farDevice _ _ _ (id-is (named u)) _ (value-is u .0)
+    (far-none (outside maxId (named u .id .given .0 .0)) (outside maxCapacity (u .answer .given .0 .0)) (sym (o .outside .ensures) ∙ c .if1 .left)
+    (value-is u .1))
+
 returns : tie.Need-returns
 returns c =
     let n = c .before .before in
@@ -48,14 +56,6 @@ returns-3 c =
     let u = o .before .before in
     pair-far Add farDevice _ _ _ (id-is (named u)) _ (value-is u .0)
     (far-first (outside maxId (named u .id .given .0 .0)) (outside maxCapacity (u .answer .given .0 .0)) (sym (o .outside .ensures) ∙ c .if1 .taken))
-
-returns-4 : tie.Need-returns-4
-returns-4 c =
-    let o = c .before in
-    let u = o .before .before in
-    pair-near Add farDevice _ _ _ (id-is (named u)) _ (value-is u .0)
-    (far-none (outside maxId (named u .id .given .0 .0)) (outside maxCapacity (u .answer .given .0 .0)) (sym (o .outside .ensures) ∙ c .if1 .left)
-    (value-is u .1))
 
 pub add-line-spec : {M : Type 1} → statement M
 add-line-spec =

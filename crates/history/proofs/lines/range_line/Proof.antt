@@ -26,6 +26,15 @@ range-is v = sym (v .before .before .number .ensures .0) ∙ v .range .given .1
 limit-is : (u : tie.After-limit) → second (ranged u .before .before) ≡ Number (u .limit .given .0 .0)
 limit-is u = sym (u .before .before .number2 .ensures .0) ∙ u .limit .given .1
 
+returns-5 : tie.Need-returns-5
+returns-5 c =
+    let k = c .before in
+    let o = k .before .before in
+    let u = o .before .before in
+    pair-near Range farRange _ _ _ (range-is (ranged u)) _ (limit-is u)
+    (far-none (outside maxRange (ranged u .range .given .0 .0)) (outside maxLimit (u .limit .given .0 .0)) (sym (o .outside .ensures) ∙ k .before .if1 .left)
+    (sym (k .outside2 .ensures) ∙ c .if2 .left))
+
 returns : tie.Need-returns
 returns c =
     let n = c .before .before in
@@ -50,15 +59,6 @@ returns-4 c =
     let u = k .before .before .before .before in
     pair-far Range farRange _ _ _ (range-is (ranged u)) _ (limit-is u)
     (far-second (outside maxRange (ranged u .range .given .0 .0)) (outside maxLimit (u .limit .given .0 .0)) (sym (k .outside2 .ensures) ∙ c .if2 .taken))
-
-returns-5 : tie.Need-returns-5
-returns-5 c =
-    let k = c .before in
-    let o = k .before .before in
-    let u = o .before .before in
-    pair-near Range farRange _ _ _ (range-is (ranged u)) _ (limit-is u)
-    (far-none (outside maxRange (ranged u .range .given .0 .0)) (outside maxLimit (u .limit .given .0 .0)) (sym (o .outside .ensures) ∙ k .before .if1 .left)
-    (sym (k .outside2 .ensures) ∙ c .if2 .left))
 
 pub range-line-spec : {M : Type 1} → statement M
 range-line-spec =

@@ -6,6 +6,14 @@ use borrow.Author.Needs.{needs}
 use Rattle.history.proofs.lines.remove_line.Statement.{statement}
 use Rattle.history.proofs.lines.remove_line.Tie as tie
 
+returns-3 : tie.Need-returns-3
+returns-3 c =
+    let o = c .before in
+    let v = o .before .before in
+    let n = v .before .before in
+    remove-near (numberIn (n .before .before .args .word .now)) (v .id .given .0 .0) (sym (n .number .ensures .0) ∙ v .id .given .1)
+    (sym (o .outside .ensures) ∙ c .if1 .left)
+
 returns : tie.Need-returns
 returns c =
     let n = c .before .before in
@@ -18,14 +26,6 @@ returns-2 c =
     let n = v .before .before in
     remove-far (numberIn (n .before .before .args .word .now)) (v .id .given .0 .0) (sym (n .number .ensures .0) ∙ v .id .given .1)
     (sym (o .outside .ensures) ∙ c .if1 .taken)
-
-returns-3 : tie.Need-returns-3
-returns-3 c =
-    let o = c .before in
-    let v = o .before .before in
-    let n = v .before .before in
-    remove-near (numberIn (n .before .before .args .word .now)) (v .id .given .0 .0) (sym (n .number .ensures .0) ∙ v .id .given .1)
-    (sym (o .outside .ensures) ∙ c .if1 .left)
 
 pub remove-line-spec : {M : Type 1} → statement M
 remove-line-spec =

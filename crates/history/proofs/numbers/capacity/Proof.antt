@@ -17,7 +17,7 @@ returns : tie.Need-returns
 returns c = capacity-read (ap capacityAnswer (sym (c .enum-told .given .1) ∙ c .before .before .thousandths .ensures))
 
 returns-2 : tie.Need-returns-2
-returns-2 c = capacity-read (answer-low _ (c .if1 .taken) ∙ told (c .before .before))
+returns-2 c = capacity-read (answer-low (c .before .before .value .given .0 .0) (omega (arith, c .if1 .taken)) ∙ told (c .before .before))
 
 returns-3 : tie.Need-returns-3
 returns-3 c = capacity-read (answer-high (c .before .before .before .value .given .0 .0) (omega (arith, c .if2 .taken)) ∙ told (c .before .before .before))

@@ -2,6 +2,7 @@
 use mathlib.Core.Path.{_≡_}
 use mathlib.Core.List.{List}
 use Prim.Native.Nat.{ℕ, _+_, _*_, _^_, _≤_}
+use native.Mathlib.Omega.{arith}
 use lib.Dec.{eqb}
 use lib.ListN.{length}
 use borrow.Author.Needs.{needs}
@@ -15,7 +16,7 @@ tested : (xs : List ℕ) (h l : ℕ) → headSize ≤ length xs → h ≡ number
 tested xs h l s p q = rw (le-leb headSize (length xs) s, joined xs 0 2 1 h l p q)
 
 returns : tie.Need-returns
-returns c = rw (lt-leb headSize (length (c .before .before .args .image .now)) (c .if1 .taken))
+returns c = rw (lt-leb headSize (length (c .before .before .args .image .now)) (omega (arith, c .if1 .taken)))
 
 returns-2 : tie.Need-returns-2
 returns-2 c =
