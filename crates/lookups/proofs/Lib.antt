@@ -1,4 +1,5 @@
 pub mod Promised
 pub mod CounterLists
 pub mod LentPool
+pub mod LendsPool
 pub mod CopyAnswers
