@@ -2,4 +2,5 @@ pub mod Replies
 pub mod Promised
 pub mod CounterLists
 pub mod LentPool
+pub mod LendsPool
 pub mod CopyAnswers

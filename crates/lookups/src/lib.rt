@@ -180,36 +180,17 @@ pub fn copies(pool: &Pool, block: u64, k: u64, counters: Counters) -> CopiesAnsw
     )
 }
 
-// The owner of a point, of a pool by value: for callers that make one lookup.
+// The owner of a point, of a pool by value, which it lends to `owner`: for callers that make one lookup.
 pub fn owner_of(pool: Pool, point: u64) -> OwnerAnswer
     ensures { λ r. ⌜ Looked pool point r ⌝ }
 {
-    let starts = pool.starts;
-    let owners = pool.owners;
-    owner_in(
-        &starts,
-        &owners,
-        pool.intervals,
-        pool.devices,
-        pool.range,
-        point,
-    )
+    owner(&pool, point)
 }
 
-// The copies of a block, of a pool by value: for callers that make one lookup.
+// The copies of a block, of a pool by value, which it lends to `copies`: for callers that make one
+// lookup.
 pub fn copies_of(pool: Pool, block: u64, k: u64, counters: Counters) -> CopiesAnswer
     ensures { λ r. ⌜ Copied pool block k counters r ⌝ }
 {
-    let starts = pool.starts;
-    let owners = pool.owners;
-    copies_in(
-        &starts,
-        &owners,
-        pool.intervals,
-        pool.devices,
-        pool.range,
-        block,
-        k,
-        counters,
-    )
+    copies(&pool, block, k, counters)
 }
