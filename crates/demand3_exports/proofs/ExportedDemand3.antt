@@ -15,12 +15,12 @@ use lib.ListN.{length, take, drop}
 use lib.Seq.{take-append-seam, drop-at}
 use borrow.Author.Tests.{ne-eqb, ltb-true, ltb-false}
 use Rattle.slicing.specs.Changes.{fresh, Change, Outcome, change}
-use Rattle.slicing.specs.Demand3.{written}
+use Rattle.slicing.specs.Claims.{written}
 use Rattle.slicing.specs.Ledger.{Ledger, blank}
 use Rattle.slicing.specs.Limits.{maxRange, maxLimit, outside}
 use Rattle.slicing.specs.Validity.{Valid}
 use Rattle.slicing.proofs.Changes.{outside-false, or-false}
-use Rattle.slicing.proofs.Demand3.{valid-fresh}
+use Rattle.slicing.proofs.Claims.{valid-fresh}
 use Rattle.slicing_core.specs.Rows.{at}
 use Rattle.placement.specs.Pools.{poolOf}
 use Rattle.placement.specs.Promises.{movesIn, flat}

@@ -22,7 +22,7 @@ use lib.ListN.{length, take, drop, List·getD-append}
 use lib.Seq.{drop-append-seam}
 use borrow.Author.Tests.{eqb-true, eqb-false}
 use Rattle.slicing.specs.Changes.{Outcome, change}
-use Rattle.slicing.specs.Demand3 as Rules
+use Rattle.slicing.specs.Claims as Rules
 use Rattle.slicing.specs.Ledger.{Ledger, feed}
 use Rattle.slicing.specs.ShareRule.{shareOf}
 use Rattle.slicing.specs.SixSteps.{points}

@@ -13,7 +13,7 @@ use native.Mathlib.Omega.{arith}
 use lib.Dec.{leb, ltb}
 use lib.ListN.{length, take, drop}
 use Rattle.slicing.specs.Changes.{State, Change, add, remove, resize, Outcome, stop, settledBy, settle, admit, change}
-use Rattle.slicing.specs.Demand3.{written}
+use Rattle.slicing.specs.Claims.{written}
 use Rattle.slicing.specs.Devices.{Device, present, insert, delete, update}
 use Rattle.slicing.specs.Limits.{maxDevices, maxId, maxCapacity, outside}
 use Rattle.slicing.specs.Runs.{Run}

@@ -15,7 +15,7 @@ use lib.ListN.{length, drop, replicate}
 use Rattle.placement.specs.Pools.{stateOf, poolOf}
 use Rattle.placement.proofs.PoolLaws.{stateOf-poolOf, validPool-poolOf}
 use Rattle.slicing.specs.Changes.{State, fresh, Change, add, remove, resize, Outcome, change}
-use Rattle.slicing.specs.Demand3 as Rules
+use Rattle.slicing.specs.Claims as Rules
 use Rattle.slicing.specs.Ledger.{blank}
 use Rattle.slicing.specs.Limits.{maxRange, maxLimit}
 use Rattle.slicing.specs.SixSteps.{move}

@@ -15,11 +15,11 @@ use lib.ListN.{length, set, getD, take, drop, length-append, length-drop}
 use lib.Seq.{paste, paste-suc, length-take-le, take-append-seam}
 use borrow.Author.Tests.{lt-ltb, le-ltb}
 use Rattle.slicing.specs.Changes.{State, Change, Outcome, change}
-use Rattle.slicing.specs.Demand3.{Claim, from-valid, written}
+use Rattle.slicing.specs.Claims.{Claim, written}
 use Rattle.slicing.specs.Ledger.{Ledger, opened, feed}
 use Rattle.slicing.specs.Runs.{intervals}
 use Rattle.slicing.proofs.Changes.{valid-change}
-use Rattle.slicing.proofs.Demand3.{demand3}
+use Rattle.slicing.proofs.Claims.{claim-valid}
 use Rattle.slicing_core.specs.Stages.{scratch}
 use Rattle.slicing_core.proofs.Outcomes.{Alike, alike-change}
 use Rattle.placement.specs.Pools.{stateOf, poolOf, ValidPool}
@@ -92,7 +92,7 @@ module _ (l xs : List ℕ) (end : ℕ) (size : length xs ≡ 4 * scratch) (e : e
     before = opened (s .devices) (intervals 0 (s .table))
 
     claim : Claim (s .range) (s .limit) s before (feed before k (u .number) (written u)) (movesIn (take end xs)) u
-    claim = demand3 s before (from-valid (v .valid)) (record { change = k; lent = movesIn (take end xs) } ∷ []) .0
+    claim = claim-valid s (v .valid) (movesIn (take end xs)) k
 
     number : r .refusal ≡ o .number
     number = h .valid v .number ∙ alike .number

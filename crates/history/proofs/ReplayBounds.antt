@@ -7,13 +7,13 @@ use Prim.Native.Nat.{ℕ, zero, suc, _≤_}
 use native.Mathlib.Omega.{arith}
 use lib.ListN.{length}
 use Rattle.slicing.specs.Changes.{State, Change, change}
-use Rattle.slicing.specs.Demand3.{Claim, from-valid, written}
+use Rattle.slicing.specs.Claims.{Claim, written}
 use Rattle.slicing.specs.Ledger.{Ledger, opened, feed}
 use Rattle.slicing.specs.Runs.{Run, _of_, total, intervals}
 use Rattle.slicing.specs.ShareRule.{shares}
 use Rattle.slicing.specs.SixSteps.{Move, reductions}
 use Rattle.slicing.specs.Validity.{Valid}
-use Rattle.slicing.proofs.Demand3.{demand3}
+use Rattle.slicing.proofs.Claims.{claim-valid}
 use Rattle.slicing.proofs.ShareRule.{total-shares}
 
 reductions-most : (has due : List (Run ℕ)) → reductions has due ≤ total has
@@ -25,7 +25,7 @@ module _ (s : State) (v : Valid s) (lent : List Move) (k : Change) where
   ledger = opened (s .devices) (intervals 0 (s .table))
 
   claim : Claim (s .range) (s .limit) s ledger (feed ledger k (change s lent k .number) (written (change s lent k))) lent (change s lent k)
-  claim = demand3 s ledger (from-valid v) (record { change = k; lent = lent } ∷ []) .0
+  claim = claim-valid s v lent k
 
   pub count-most : change s lent k .count ≤ length lent
   count-most = claim .fits

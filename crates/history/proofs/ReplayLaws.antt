@@ -20,7 +20,7 @@ use Rattle.slicing.specs.Changes.{State, fresh, Change, add, remove, resize}
 use Rattle.slicing.specs.Limits.{maxRange, maxLimit}
 use Rattle.slicing.specs.Validity.{Valid}
 use Rattle.slicing.proofs.Changes.{valid-change, change-refused}
-use Rattle.slicing.proofs.Demand3.{valid-fresh}
+use Rattle.slicing.proofs.Claims.{valid-fresh}
 use Rattle.history.specs.declared.lines.LineAnswer.{LineAnswer}
 use Rattle.history.specs.declared.lines.LineAnswer.the-variants.{Range, Add, Remove, Resize, Refused}
 use Rattle.history.specs.Histories.{lastOf, linesOf, textOf, Whole, Complete, readAll, poolAfter, acceptedLines, printedLines, unfinished}

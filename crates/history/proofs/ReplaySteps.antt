@@ -16,7 +16,7 @@ use Rattle.slicing.specs.Limits.{maxRange, maxLimit, outside}
 use Rattle.slicing.specs.SixSteps.{move}
 use Rattle.slicing.specs.Validity.{Valid}
 use Rattle.slicing.proofs.Changes.{valid-change, outside-false, or-false}
-use Rattle.slicing.proofs.Demand3.{valid-fresh}
+use Rattle.slicing.proofs.Claims.{valid-fresh}
 use Rattle.history.specs.declared.applying.History.{History}
 use Rattle.history.specs.declared.applying.LineResult.{LineResult}
 use Rattle.history.specs.declared.lines.LineAnswer.{LineAnswer}

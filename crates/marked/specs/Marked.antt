@@ -6,7 +6,7 @@ use Rattle.history.specs.Lines.{capacityAnswer}
 use Rattle.history.specs.Text.{capacityIn}
 use Rattle.lookup_core.specs.Probes.{scaled}
 use Rattle.slicing.specs.Changes.{fresh, add, remove, resize}
-use Rattle.slicing.specs.Demand3.{written}
+use Rattle.slicing.specs.Claims.{written}
 use Rattle.slicing.specs.Devices.{device}
 use Rattle.slicing.specs.Runs.{_of_}
 use Rattle.slicing.specs.ShareRule.{shares}

@@ -12,12 +12,12 @@ use lib.ListN.{length, take, drop, length-map, length-append, length-drop}
 use lib.Seq.{length-take-le}
 use borrow.Author.Tests.{ltb-true, ltb-false}
 use Rattle.slicing.specs.Changes.{State, Change, Outcome, refused, change}
-use Rattle.slicing.specs.Demand3.{Claim, from-valid, written}
+use Rattle.slicing.specs.Claims.{Claim, written}
 use Rattle.slicing.specs.Ledger.{Ledger, opened, feed}
 use Rattle.slicing.specs.Runs.{intervals}
 use Rattle.slicing.specs.SixSteps as Rules
 use Rattle.slicing.specs.Validity.{Valid}
-use Rattle.slicing.proofs.Demand3.{demand3}
+use Rattle.slicing.proofs.Claims.{claim-valid}
 use Rattle.slicing_core.specs.Stages.{scratch}
 use Rattle.slicing_core.proofs.Outcomes.{Alike, alike-refused, alike-change}
 use Rattle.placement.specs.Pools.{stateOf, poolOf, ValidPool}
@@ -36,7 +36,7 @@ module _ (s : State) (v : Valid s) (lent : List Rules.Move) (k : Change) where
   before = opened (s .devices) (intervals 0 (s .table))
 
   claim : Claim (s .range) (s .limit) s before (feed before k (change s lent k .number) (written (change s lent k))) lent (change s lent k)
-  claim = demand3 s before (from-valid v) (record { change = k; lent = lent } ∷ []) .0
+  claim = claim-valid s v lent k
 
   count-fits : change s lent k .count ≤ length lent
   count-fits = claim .fits

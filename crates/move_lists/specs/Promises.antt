@@ -13,7 +13,7 @@ use Rattle.placement.specs.Pools.{stateOf, poolOf, ValidPool}
 use Rattle.placement.specs.declared.ChangeAnswer.{ChangeAnswer}
 use Rattle.placement.specs.declared.Pool.{Pool}
 use Rattle.slicing.specs.Changes.{Change, Outcome, refused, change}
-use Rattle.slicing.specs.Demand3.{written}
+use Rattle.slicing.specs.Claims.{written}
 use Rattle.slicing.specs.SixSteps as Rules
 use Rattle.slicing_core.specs.Stages.{scratch}
 use Rattle.move_lists.specs.declared.Draft.{Draft}

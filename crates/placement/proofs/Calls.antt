@@ -17,7 +17,7 @@ use lib.Dec.{ltb}
 use lib.ListN.{length, drop}
 use borrow.Author.Tests.{ltb-false, le-leb, lt-leb}
 use Rattle.slicing.specs.Changes.{State, Change, add, remove, resize, refused, stop, accepted, settledBy, settle, admit, change}
-use Rattle.slicing.specs.Demand3.{written}
+use Rattle.slicing.specs.Claims.{written}
 use Rattle.slicing.specs.Devices.{Device, device, present, insert, delete, update}
 use Rattle.slicing.specs.Limits.{maxDevices, maxId, maxCapacity, outside}
 use Rattle.slicing.specs.Runs.{Run, _of_}

@@ -16,7 +16,7 @@ use mathlib.Core.List.{List, [], _∷_, _++_}
 use Prim.Native.Nat.{ℕ, _*_}
 use lib.ListN.{drop}
 use Rattle.slicing.specs.Changes.{State, fresh, Change, add, remove, resize, Outcome, refused, change}
-use Rattle.slicing.specs.Demand3.{written}
+use Rattle.slicing.specs.Claims.{written}
 use Rattle.slicing.specs.Devices.{present}
 use Rattle.slicing.specs.Limits.{maxRange, maxLimit, maxId, outside}
 use Rattle.slicing.specs.Replies.{Reply, replied, declined}

@@ -13,7 +13,7 @@ use Prim.Native.Nat.{ℕ, _^_, _≤_, _<_}
 use lib.Dec.{eqb}
 use lib.ListN.{length}
 use Rattle.slicing.specs.Changes.{settle}
-use Rattle.slicing.specs.Demand3.{written}
+use Rattle.slicing.specs.Claims.{written}
 use Rattle.slicing.specs.Devices.{Device, present, Rising}
 use Rattle.slicing.specs.Runs.{total, Coalesced}
 use Rattle.slicing.specs.SixSteps.{Move}

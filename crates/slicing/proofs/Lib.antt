@@ -12,6 +12,6 @@ pub mod Moves
 pub mod MovesAt
 pub mod Least
 pub mod Changes
-pub mod Demand3
+pub mod Claims
 pub mod Cases
 pub mod Vectors

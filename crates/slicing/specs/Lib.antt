@@ -8,4 +8,4 @@ pub mod SixSteps
 pub mod Changes
 pub mod Validity
 pub mod Ledger
-pub mod Demand3
+pub mod Claims

@@ -14,7 +14,7 @@ use lib.ListN.{length, drop}
 use lib.Seq.{take-append-seam}
 use borrow.Author.Tests.{ltb-true, ltb-false, lt-ltb, le-ltb}
 use Rattle.slicing.specs.Changes.{State, Change, add, remove, resize, Outcome, refused, stop, accepted, settle, admit, change}
-use Rattle.slicing.specs.Demand3.{written}
+use Rattle.slicing.specs.Claims.{written}
 use Rattle.slicing.specs.Devices.{Device, device, ids, present, insert, delete, update}
 use Rattle.slicing.specs.Limits.{maxDevices, maxId, maxCapacity, outside}
 use Rattle.slicing.specs.Runs.{Run, _of_}
