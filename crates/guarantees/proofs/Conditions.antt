@@ -1,0 +1,58 @@
+-- The rules' tests from conditions in plain terms.
+--
+--   Inside k x        x lies within 1 to k
+-- outside: inside-false, inside-true; two-inside, two-outside (of two numbers)
+-- present: listed-present, unlisted-absent; length-devices
+use mathlib.Core.Path.{_≡_, refl, sym}
+use mathlib.Core.Bool.{Bool, true, false, _||_}
+use mathlib.Core.List.{List}
+use Prim.Native.Nat.{ℕ, _≤_, _<_}
+use native.Mathlib.Omega.{arith}
+use lib.Dec.{ltb}
+use lib.ListN.{length}
+use borrow.Author.Tests.{lt-ltb, le-ltb, ltb-false}
+use Rattle.slicing.specs.Devices.{present}
+use Rattle.slicing.specs.Limits.{outside}
+use Rattle.slicing.proofs.Changes.{or-false, outside-false}
+use Rattle.slicing_core.specs.Rows.{at}
+use Rattle.slicing_core.proofs.DeviceRows.{position-present, present-without}
+use Rattle.slicing_core.proofs.Rows.{length-deviceRows}
+use Rattle.placement.specs.Pools.{stateOf}
+use Rattle.placement.specs.declared.Pool.{Pool}
+use Rattle.demand3.specs.Points.{Listed}
+
+abbrev pub Inside : ℕ → ℕ → Type 0
+Inside k x = (1 ≤ x) × (x ≤ k)
+
+not-true : (t : Bool) → (t ≡ false → ⊥) → t ≡ true
+not-true true h = refl
+not-true false h = absurd (h refl)
+
+pub inside-false : (k x : ℕ) → Inside k x → outside k x ≡ false
+inside-false k x i = rw (le-ltb x 1 (i .0), le-ltb k x (i .1))
+
+pub inside-true : (k x : ℕ) → (Inside k x → ⊥) → outside k x ≡ true
+inside-true k x h = not-true (outside k x) (λ e. h (outside-false k x e))
+
+module _ (k x l y : ℕ) where
+  pub two-inside : Inside k x → Inside l y → outside k x || outside l y ≡ false
+  two-inside i j = rw (inside-false k x i, inside-false l y j)
+
+  pub two-outside : (Inside k x → Inside l y → ⊥) → outside k x || outside l y ≡ true
+  two-outside h =
+      not-true (outside k x || outside l y)
+      (λ e. let t = or-false (outside k x) (outside l y) e in h (outside-false k x (t .0)) (outside-false l y (t .1)))
+
+module _ (p : Pool) where
+  pub listed-present : (d : ℕ) → Listed p d → present d (stateOf p .devices) ≡ true
+  unfolding stateOf
+  listed-present d l = position-present (p .ids) (p .capacities) (p .devices) d (l .place) (l .below) (l .id)
+
+  pub unlisted-absent : (d : ℕ) → (Listed p d → ⊥) → present d (stateOf p .devices) ≡ false
+  unfolding stateOf
+  unlisted-absent d h =
+      present-without (p .ids) (p .capacities) d 0 (p .devices) (λ k l b e. h (record { place = k; below = omega (arith, b); id = sym e }))
+
+  pub length-devices : length (stateOf p .devices) ≡ p .devices
+  unfolding stateOf
+  length-devices = length-deviceRows (p .ids) (p .capacities) 0 (p .devices)

@@ -1,0 +1,5 @@
+pub mod Conditions
+pub mod Digests
+pub mod Pools
+pub mod ChangeRules
+pub mod Changes
