@@ -1,20 +1,18 @@
 -- The rules' tests from conditions in plain terms.
 --
 --   Inside k x        x lies within 1 to k
--- outside: inside-false, inside-true; two-inside, two-outside (of two numbers)
+--   Decided P         P, or not P
+-- outside: inside-false, inside-true; two-inside, two-outside (of two numbers); one-decided, two-decided
 -- present: listed-present, unlisted-absent; length-devices
-use mathlib.Core.Path.{_≡_, refl, sym}
-use mathlib.Core.Bool.{Bool, true, false, _||_}
-use mathlib.Core.List.{List}
-use Prim.Native.Nat.{ℕ, _≤_, _<_}
+use mathlib.Core.Path.{_≡_, refl, sym, _∙_}
+use mathlib.Core.Bool.{Bool, true, false, _||_, true≢false}
+use Prim.Native.Nat.{ℕ, _≤_}
 use native.Mathlib.Omega.{arith}
-use lib.Dec.{ltb}
 use lib.ListN.{length}
-use borrow.Author.Tests.{lt-ltb, le-ltb, ltb-false}
+use borrow.Author.Tests.{le-ltb}
 use Rattle.slicing.specs.Devices.{present}
 use Rattle.slicing.specs.Limits.{outside}
 use Rattle.slicing.proofs.Changes.{or-false, outside-false}
-use Rattle.slicing_core.specs.Rows.{at}
 use Rattle.slicing_core.proofs.DeviceRows.{position-present, present-without}
 use Rattle.slicing_core.proofs.Rows.{length-deviceRows}
 use Rattle.placement.specs.Pools.{stateOf}
@@ -42,6 +40,24 @@ module _ (k x l y : ℕ) where
   two-outside h =
       not-true (outside k x || outside l y)
       (λ e. let t = or-false (outside k x) (outside l y) e in h (outside-false k x (t .0)) (outside-false l y (t .1)))
+
+pub data Decided (P : Type 0) : Type 0 where
+  within : P → Decided P
+  without : (P → ⊥) → Decided P
+
+pub one-decided : (k x : ℕ) → Decided (Inside k x)
+one-decided k x = go (outside k x) refl
+  where
+    go : (t : Bool) → outside k x ≡ t → Decided (Inside k x)
+    go true e = without (λ i. true≢false (sym e ∙ inside-false k x i))
+    go false e = within (outside-false k x e)
+
+pub two-decided : (k x l y : ℕ) → Decided (Inside k x × Inside l y)
+two-decided k x l y = go (outside k x || outside l y) refl
+  where
+    go : (t : Bool) → outside k x || outside l y ≡ t → Decided (Inside k x × Inside l y)
+    go true e = without (λ i. true≢false (sym e ∙ two-inside k x l y (i .0) (i .1)))
+    go false e = let t = or-false (outside k x) (outside l y) e in within (outside-false k x (t .0), outside-false l y (t .1))
 
 module _ (p : Pool) where
   pub listed-present : (d : ℕ) → Listed p d → present d (stateOf p .devices) ≡ true

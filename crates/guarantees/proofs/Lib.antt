@@ -3,3 +3,4 @@ pub mod Digests
 pub mod Pools
 pub mod ChangeRules
 pub mod Changes
+pub mod FlatChanges
