@@ -4,3 +4,5 @@ pub mod Pools
 pub mod ChangeRules
 pub mod Changes
 pub mod FlatChanges
+pub mod Lookups
+pub mod Images
