@@ -6,7 +6,8 @@
 -- two words: pair-first, pair-second (a word that has no shape), pair-far, pair-near (by their limits); far-first, far-second, far-none
 -- devices: pair-refused, capacity-known (what the answer of the capacity reader says); resized-add, resized-other
 -- removals: remove-none, remove-far, remove-near
--- words: three-range, three-add, three-resize, three-other; line-one, line-remove, line-two, line-three, line-four (by the number of words)
+-- words: three-range, three-add, three-resize, three-other; line-one, line-remove, line-two, line-three, line-four (by the number of words);
+--   line-read (what a line says is its reply)
 use mathlib.Core.Path.{_≡_, refl, sym, ap, _∙_}
 use mathlib.Core.Bool.{Bool, true, false, cond, _&&_, _||_}
 use mathlib.Core.List.{List, [], _∷_}
@@ -22,7 +23,7 @@ use denote.Enum.Declared.{tagOf}
 use borrow.Author.Tests.{eq-eqb, ne-eqb}
 use Rattle.slicing.specs.Limits.{maxId, maxCapacity, outside}
 use Rattle.history.specs.Text.{space, split, numberIn, capacityIn}
-use Rattle.history.specs.Lines.{capacityAnswer, refusalOf, same, rangeWord, addWord, removeWord, resizeWord, pairLine, removeLine, farRange, farDevice, threeWords, lineOf, lineIn}
+use Rattle.history.specs.Lines.{capacityReply, capacityAnswer, lineReply, same, rangeWord, addWord, removeWord, resizeWord, pairLine, removeLine, farRange, farDevice, threeWords, lineOf, lineIn, LineRead}
 use Rattle.history.specs.declared.numbers.CapacityAnswer.{CapacityAnswer}
 use Rattle.history.specs.declared.numbers.CapacityAnswer.the-variants as Capacity
 use Rattle.history.specs.declared.lines.LineAnswer.{LineAnswer}
@@ -105,7 +106,7 @@ capacity-refused f a n (Number v) e = go (outside maxCapacity v) refl
     go false k = absurd (refused-known n v (rw k at e))
 
 pub pair-refused : (f : ℕ → ℕ → LineAnswer) (p q : Parsed) (a : ℕ) → p ≡ Number a → (s : CapacityAnswer) → s ≡ capacityAnswer q
-    → (n : ℕ) → s ≡ Capacity.Refused n → (m : ℕ) → m ≡ refusalOf s → Refused m ≡ pairLine f farDevice p q
+    → (n : ℕ) → s ≡ Capacity.Refused n → (m : ℕ) → m ≡ capacityReply s .number → Refused m ≡ pairLine f farDevice p q
 pair-refused f p q a k s e n t m o = rw (k, o, t) (capacity-refused f a n q (sym t ∙ e))
 
 pub capacity-known : (v : ℕ) (q : Parsed) → Capacity.Thousandths v ≡ capacityAnswer q → (q ≡ Number v) × (outside maxCapacity v ≡ false)
@@ -201,3 +202,6 @@ module _ {xs : List ℕ} {n : ℕ} {ys : List ℕ} (c : Cut space xs n ys) where
         let rest : List ℕ = behind zs o in
         rw (cut-split space xs n ys c, cut-split space ys m zs d, cut-split space zs o rest (cut-made space zs o f e))
         (sym (lineOf-more (take n xs) (take m ys) (take o zs) (split space rest) (split-some space rest)))
+
+pub line-read : {xs : List ℕ} {r : LineAnswer} → r ≡ lineIn xs → LineRead xs r
+line-read e = record { answer = e; reply = ap lineReply e }

@@ -8,7 +8,7 @@
 -- numbers: leading-low, leading-other, leading-single; number-short, number-long, number-led, number-digits
 -- fractions: fraction-short, fraction-long, fraction-none; spelled-as, spelled-below, fraction-one, fraction-two, fraction-three
 -- capacities: pointed (a text with a point in it is not all digits), capacity-pointed (a first part, and what stands behind the first point);
---   capacity-none, capacity-whole, capacity-rest, capacity-all; answer-low, answer-high, answer-right
+--   capacity-none, capacity-whole, capacity-rest, capacity-all; answer-low, answer-high, answer-right; capacityReply-answer, capacity-read
 use mathlib.Core.Path.{_≡_, refl, sym, ap, _∙_}
 use mathlib.Core.Bool.{Bool, true, false, cond, _&&_, not}
 use mathlib.Core.List.{List, [], _∷_}
@@ -20,8 +20,10 @@ use lib.ListN.{length, getD, take, drop}
 use lib.Seq.{take-length}
 use borrow.Author.Tests.{lt-ltb, le-ltb, lt-leb, ne-eqb, eqb-true, eqb-false}
 use Rattle.slicing.specs.Limits.{maxCapacity, outside}
+use Rattle.slicing.specs.Replies.{replied, declined}
 use Rattle.history.specs.Cuts.{cutAt}
-use Rattle.history.specs.Lines.{capacityAnswer}
+use Rattle.history.specs.Lines.{capacityReply, capacityAnswer, parsedReply, CapacityRead}
+use Rattle.history.specs.declared.numbers.CapacityAnswer.{CapacityAnswer}
 use Rattle.history.specs.declared.numbers.CapacityAnswer.the-variants as Capacity
 use Rattle.history.specs.Text.{point, split, isDigit, allDigits, spelled, leadingZero, isNumber, numberIn, isFraction, fractionOf, thousandths, capacityIn}
 use Rattle.history.specs.declared.numbers.Parsed.{Parsed}
@@ -232,3 +234,14 @@ module _ (v : ℕ) where
 
   pub answer-right : 1 ≤ v → v ≤ maxCapacity → Capacity.Thousandths v ≡ capacityAnswer (Number v)
   answer-right l h = rw (outside-right maxCapacity v l h)
+
+capacityReply-answer : (p : Parsed) → capacityReply (capacityAnswer p) ≡ parsedReply p
+capacityReply-answer Shapeless = refl
+capacityReply-answer (Number c) = go (outside maxCapacity c)
+  where
+    go : (t : Bool) → capacityReply (cond t (Capacity.Refused 2) (Capacity.Thousandths c)) ≡ cond t (declined 2) (replied c)
+    go true = refl
+    go false = refl
+
+pub capacity-read : {xs : List ℕ} {r : CapacityAnswer} → r ≡ capacityAnswer (capacityIn xs) → CapacityRead xs r
+capacity-read {xs} e = record { answer = e; reply = ap capacityReply e ∙ capacityReply-answer (capacityIn xs) }

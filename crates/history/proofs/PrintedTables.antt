@@ -2,22 +2,27 @@
 --
 --   table-rows           the intervals of a valid pool are those that its arrays give
 --   table-place, table-put   what `put_table` answers and leaves
+--   transcriptReply-answer, transcribed-answer   what the answer of a transcript is says what its reply is
 --   transcribed-short, transcribed-long, transcribed-whole   the three answers of `transcript`
-use mathlib.Core.Path.{_≡_, sym, ap, ap₂, _∙_}
+use mathlib.Core.Path.{_≡_, refl, sym, ap, ap₂, _∙_}
+use mathlib.Core.Bool.{Bool, true, false, cond}
 use mathlib.Core.List.{List, [], _∷_, _++_, append-assoc}
 use Prim.Native.Nat.{ℕ, _+_, _≤_, _<_}
 use native.Mathlib.Omega.{arith}
+use lib.Dec.{ltb}
 use lib.ListN.{length, take, drop, length-append, length-take, take-append-drop}
 use borrow.Author.Tests.{lt-ltb, le-ltb}
 use Rattle.placement.specs.Pools.{stateOf, ValidPool}
 use Rattle.placement.specs.declared.Pool.{Pool}
 use Rattle.placement.proofs.PoolLaws.{intervals-rows}
 use Rattle.placement.proofs.ValidParts.{valid-coalesced, valid-covers}
+use Rattle.slicing.specs.Replies.{replied, declined}
 use Rattle.slicing.specs.Runs.{intervals}
 use Rattle.slicing_core.specs.Rows.{intervalRows}
 use Rattle.slicing_core.proofs.Fronts.{front-put}
+use Rattle.history.specs.declared.transcripts.TranscriptAnswer.{TranscriptAnswer}
 use Rattle.history.specs.declared.transcripts.TranscriptAnswer.the-variants.{Printed, Refused}
-use Rattle.history.specs.Promises.{room, Transcribed}
+use Rattle.history.specs.Promises.{room, transcriptReply, Transcribed}
 use Rattle.history.specs.Replay.{printedRows, printedTable, maxText, tooLong, replayed, transcript}
 use Rattle.history.specs.Text.{lineEnd}
 
@@ -51,16 +56,28 @@ module _ (p : Pool) (v : ValidPool p) where
 
 -- ---- the answer
 
+transcriptReply-answer : (a : Bool) (n : ℕ) → transcriptReply (cond a (Refused 17) (Printed n)) ≡ cond a (declined 17) (replied n)
+transcriptReply-answer true n = refl
+transcriptReply-answer false n = refl
+
 module _ (xs before : List ℕ) where
+  transcribed-answer : (r : TranscriptAnswer) (after : List ℕ) → r ≡ cond (ltb (length before) room) (Refused 17) (Printed (length (transcript xs)))
+      → after ≡ cond (ltb (length before) room) before (transcript xs ++ drop (length (transcript xs)) before) → Transcribed xs before r after
+  transcribed-answer r after e f = record {
+    answer = e;
+    reply = ap transcriptReply e ∙ transcriptReply-answer (ltb (length before) room) (length (transcript xs));
+    buffer = f;
+  }
+
   pub transcribed-short : length before < room → Transcribed xs before (Refused 17) before
-  transcribed-short h = let e = lt-ltb (length before) room h in record { answer = rw e; buffer = rw e }
+  transcribed-short h = let e = lt-ltb (length before) room h in transcribed-answer (Refused 17) before (rw e) (rw e)
 
   module _ (h : room ≤ length before) where
     printed : (ys : List ℕ) → transcript xs ≡ ys → (n : ℕ) (after : List ℕ) → n ≡ length ys → after ≡ ys ++ drop (length ys) before
         → Transcribed xs before (Printed n) after
     printed ys t n after e f =
         let k = le-ltb (length before) room h in
-        record { answer = ap Printed e ∙ rw (k, t); buffer = f ∙ rw (k, t) }
+        transcribed-answer (Printed n) after (ap Printed e ∙ rw (k, t)) (f ∙ rw (k, t))
 
     pub transcribed-long : maxText < length xs → (n : ℕ) (after : List ℕ) → n ≡ length tooLong → after ≡ tooLong ++ drop (length tooLong) before
         → Transcribed xs before (Printed n) after

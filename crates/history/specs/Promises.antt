@@ -6,6 +6,7 @@
 --   Said h l r            r answers a line that says l on the history h
 --   Applied h xs r        r answers the line xs on the history h
 --   partAt xs n           the line of the text xs from place n on: what it says, and where the next one starts
+--   transcriptReply r     document 01's number and value of the answer r of a transcript
 --   Transcribed xs ..     the answer of a transcript of the text xs, and the buffer afterwards
 --   Left xs r             r answers the call for the pool that the text xs leaves
 use mathlib.Core.Path.{_≡_}
@@ -17,6 +18,7 @@ use lib.ListN.{length, take, drop}
 use Rattle.placement.specs.Pools.{stateOf, poolOf, ValidPool}
 use Rattle.placement.specs.declared.PoolAnswer.{PoolAnswer}
 use Rattle.slicing.specs.Changes.{fresh, Change, add, remove, resize, Outcome, change}
+use Rattle.slicing.specs.Replies.{Reply, replied, declined}
 use Rattle.history.specs.declared.applying.History.{History}
 use Rattle.history.specs.declared.applying.LineResult.{LineResult}
 use Rattle.history.specs.declared.lines.LineAnswer.{LineAnswer}
@@ -78,9 +80,14 @@ partAt xs n =
 abbrev pub room : ℕ
 room = 3145728
 
+abbrev pub transcriptReply : TranscriptAnswer → Reply
+transcriptReply (Answer.Printed n) = replied n
+transcriptReply (Answer.Refused n) = declined n
+
 -- a buffer without that room is refused with 17, and stays
 pub record Transcribed (xs before : List ℕ) (r : TranscriptAnswer) (after : List ℕ) : Type 0 where
   pub answer : r ≡ cond (ltb (length before) room) (Answer.Refused 17) (Answer.Printed (length (transcript xs)))
+  pub reply : transcriptReply r ≡ cond (ltb (length before) room) (declined 17) (replied (length (transcript xs)))
   pub buffer : after ≡ cond (ltb (length before) room) before (transcript xs ++ drop (length (transcript xs)) before)
 
 -- the pool that a text leaves; more than 65,536 bytes are refused with 2, and a refused call that makes a pool gives a fresh one with R = 1 and M = 1

@@ -9,7 +9,7 @@ ghost use Prim.Native.Nat.{_≤_};
 ghost use lib.ListN.{length};
 ghost use Rattle.slicing.specs.Limits as Limits;
 ghost use Rattle.history.specs.Lines as Lines;
-ghost use Rattle.history.specs.Lines.{pairLine, removeLine, farRange, farDevice, threeWords, lineIn};
+ghost use Rattle.history.specs.Lines.{capacityReply, pairLine, removeLine, farRange, farDevice, threeWords, LineRead};
 ghost use Rattle.history.specs.Promises.{partAt};
 ghost use Rattle.history.specs.Text.{numberIn, capacityIn};
 ghost use Rattle.history.specs.declared.lines.LineAnswer.the-variants.{Range, Add, Resize};
@@ -70,7 +70,7 @@ fn range_line(first: &[u8], second: &[u8]) -> LineAnswer
 
 // The number of a refused capacity, 0 for one that is not.
 fn refusal_of(answer: CapacityAnswer) -> u32
-    ensures { λ r. ⌜ r ≡ Lines.refusalOf answer ⌝ }
+    ensures { λ r. ⌜ r ≡ capacityReply answer .number ⌝ }
 {
     match answer {
         CapacityAnswer::Thousandths(value) => 0,
@@ -135,7 +135,7 @@ fn three_words(key: &[u8], first: &[u8], second: &[u8]) -> LineAnswer
 // What a line says, without its line end. 1 where it is not one of the four shapes, then 2 where a number
 // is outside its limits.
 pub fn line(text: &[u8]) -> LineAnswer
-    ensures { λ r. ⌜ r ≡ lineIn (now (text .entry)) ⌝ }
+    ensures { λ r. ⌜ LineRead (now (text .entry)) r ⌝ }
 {
     let end = find(text, b' ');
     if end == text.len() {

@@ -4,7 +4,7 @@ ghost use mathlib.Core.Bool.{cond};
 ghost use Prim.Native.Nat.{ℕ, _≤_, _<_, _^_};
 ghost use lib.ListN.{length};
 ghost use Rattle.history.specs.Cuts.{cutAt};
-ghost use Rattle.history.specs.Lines.{capacityAnswer};
+ghost use Rattle.history.specs.Lines.{CapacityRead};
 ghost use Rattle.history.specs.Text.{allDigits, spelled, isFraction, fractionOf, numberIn, capacityIn};
 ghost use Rattle.history.specs.declared.numbers.Parsed.the-variants.{Number, Shapeless};
 
@@ -127,7 +127,7 @@ fn thousandths(word: &[u8]) -> Parsed
 
 // A capacity in thousandths of a TB. 1 for a word that is none, 2 for one outside 1 to 1,000,000.
 pub fn capacity(word: &[u8]) -> CapacityAnswer
-    ensures { λ r. ⌜ r ≡ capacityAnswer (capacityIn (now (word .entry))) ⌝ }
+    ensures { λ r. ⌜ CapacityRead (now (word .entry)) r ⌝ }
 {
     let Parsed::Number(value) = thousandths(word) else {
         return CapacityAnswer::Refused(1);

@@ -1,26 +1,47 @@
 -- What `put_image` and `write` need: a pool's image from its arrays, and the parts of a buffer.
 --
 -- imageOf-pool, image-size, image-put
--- WrittenAs: written-invalid, written-short, written-whole
-use mathlib.Core.Path.{_≡_, refl, _∙_}
+-- writeReply: writeReply-answer
+-- WrittenAs: written-answer (what the answer is says what its reply is), written-invalid, written-short, written-whole
+use mathlib.Core.Path.{_≡_, refl, ap, _∙_}
+use mathlib.Core.Bool.{Bool, true, false, cond}
 use mathlib.Core.List.{List, _++_}
 use Prim.Native.Nat.{ℕ, _+_, _*_, _-_, _≤_, _<_}
 use native.Mathlib.Omega.{arith}
+use lib.Dec.{ltb}
 use lib.ListN.{length, take, drop, length-append}
 use borrow.Author.Tests.{lt-ltb, le-ltb}
 use Rattle.placement.specs.Pools.{stateOf, ValidPool}
 use Rattle.placement.specs.declared.Pool.{Pool}
 use Rattle.placement.proofs.PoolLaws.{length-tableRows}
 use Rattle.placement.proofs.ValidParts.{valid-coalesced, valid-covers}
+use Rattle.slicing.specs.Replies.{replied, declined}
 use Rattle.slicing_core.proofs.Fronts.{part-put}
 use Rattle.slicing_core.proofs.Rows.{length-deviceRows}
 use Rattle.images.specs.Format.{headSize, head, imageOf}
-use Rattle.images.specs.Promises.{WrittenAs}
+use Rattle.images.specs.Promises.{writeReply, writeAnswer, bufferAfter, WrittenAs}
 use Rattle.images.specs.RowBytes.{pairBytes}
+use Rattle.images.specs.declared.WriteAnswer.{WriteAnswer}
 use Rattle.images.specs.declared.WriteAnswer.the-variants.{Written, Refused}
 use Rattle.images.proofs.Fronts.{length-pairBytes}
 use Rattle.images.proofs.ImageRows.{deviceBytes-rows, intervalBytes-rows}
 use Rattle.images.proofs.ImageSizes.{length-head, length-imageOf}
+
+-- ---- the reply of a write
+
+writeReply-answer : (a : Bool) (n : ℕ) → writeReply (cond a (Refused 17) (Written n)) ≡ cond a (declined 17) (replied n)
+writeReply-answer true n = refl
+writeReply-answer false n = refl
+
+written-answer : (p : Pool) (before : List ℕ) (r : WriteAnswer) (after : List ℕ)
+    → (ValidPool p → (r ≡ writeAnswer (stateOf p) (length before)) × (after ≡ bufferAfter (stateOf p) before))
+    → ((ValidPool p → ⊥) → (r ≡ Refused 2) × (after ≡ before)) → WrittenAs p before r after
+written-answer p before r after v i = record {
+  valid = v;
+  reply = λ h. ap writeReply (v h .0) ∙ writeReply-answer (ltb (length before) (length (imageOf (stateOf p)))) (length (imageOf (stateOf p)));
+  invalid = i;
+  invalidReply = λ h. ap writeReply (i h .0);
+}
 
 -- ---- the image of a pool
 
@@ -73,13 +94,13 @@ module _ (p : Pool) (v : ValidPool p) where
   pub written-short : (before : List ℕ) → length before < headSize + 6 * n + 6 * q → WrittenAs p before (Refused 17) before
   written-short before h =
       let e = lt-ltb (length before) (length (imageOf (stateOf p))) (omega (arith, image-size)) in
-      record { valid = λ k. (rw e, rw e); invalid = λ k. absurd (k v) }
+      written-answer p before (Refused 17) before (λ k. (rw e, rw e)) (λ k. absurd (k v))
 
   pub written-whole : (before after : List ℕ) → headSize + 6 * n + 6 * q ≤ length before
       → after ≡ imageOf (stateOf p) ++ drop (length (imageOf (stateOf p))) before → WrittenAs p before (Written (headSize + 6 * n + 6 * q)) after
   written-whole before after h a =
       let e = le-ltb (length before) (length (imageOf (stateOf p))) (omega (arith, image-size)) in
-      record { valid = λ k. (rw (e, image-size), rw e a); invalid = λ k. absurd (k v) }
+      written-answer p before (Written (headSize + 6 * n + 6 * q)) after (λ k. (rw (e, image-size), rw e a)) (λ k. absurd (k v))
 
 pub written-invalid : (p : Pool) → (ValidPool p → ⊥) → (before : List ℕ) → WrittenAs p before (Refused 2) before
-written-invalid p h before = record { valid = λ k. absurd (h k); invalid = λ k. (refl, refl) }
+written-invalid p h before = written-answer p before (Refused 2) before (λ k. absurd (h k)) (λ k. (refl, refl))

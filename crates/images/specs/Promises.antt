@@ -2,6 +2,7 @@
 --
 --   refusal n                 the answer of a refused read
 --   ReadAs xs r               r answers the read of the bytes xs: one of four cases, each with the whole answer
+--   writeReply r              document 01's number and value of the answer r of a write
 --   writeAnswer, bufferAfter  the answer of a write of a state into a buffer, and the buffer afterwards
 --   WrittenAs p b r a         r answers the write of the pool p into the buffer b, and a is the buffer afterwards
 use mathlib.Core.Path.{_≡_}
@@ -14,6 +15,7 @@ use Rattle.placement.specs.Pools.{stateOf, poolOf, ValidPool}
 use Rattle.placement.specs.declared.Pool.{Pool}
 use Rattle.placement.specs.declared.PoolAnswer.{PoolAnswer}
 use Rattle.slicing.specs.Changes.{State, fresh}
+use Rattle.slicing.specs.Replies.{Reply, replied, declined}
 use Rattle.images.specs.Format.{version, imageOf, versionIn, stateIn, marked, Sound, Image}
 use Rattle.images.specs.declared.WriteAnswer.{WriteAnswer}
 use Rattle.images.specs.declared.WriteAnswer.the-variants.{Written, Refused}
@@ -29,6 +31,11 @@ pub data ReadAs (xs : List ℕ) (r : PoolAnswer) : Type 0 where
   faulty : marked xs ≡ true → versionIn xs ≡ version → (Sound xs → ⊥) → r ≡ refusal 16 → ReadAs xs r
   accepted : Image xs → r ≡ record { refusal = 0; pool = poolOf (stateIn xs) } → ReadAs xs r
 
+-- 'For an answer that is an enum, a definition gives this paper's number and values for each case of the enum.'
+abbrev pub writeReply : WriteAnswer → Reply
+writeReply (Written n) = replied n
+writeReply (Refused n) = declined n
+
 -- '17: buffer too short', else the image's length: 'a write answers it'
 abbrev pub writeAnswer : State → ℕ → WriteAnswer
 writeAnswer s size = cond (ltb size (length (imageOf s))) (Refused 17) (Written (length (imageOf s)))
@@ -39,4 +46,7 @@ bufferAfter s before = cond (ltb (length before) (length (imageOf s))) before (i
 
 pub record WrittenAs (p : Pool) (before : List ℕ) (r : WriteAnswer) (after : List ℕ) : Type 0 where
   pub valid : ValidPool p → (r ≡ writeAnswer (stateOf p) (length before)) × (after ≡ bufferAfter (stateOf p) before)
+  pub reply : ValidPool p
+      → writeReply r ≡ cond (ltb (length before) (length (imageOf (stateOf p)))) (declined 17) (replied (length (imageOf (stateOf p))))
   pub invalid : (ValidPool p → ⊥) → (r ≡ Refused 2) × (after ≡ before)
+  pub invalidReply : (ValidPool p → ⊥) → writeReply r ≡ declined 2

@@ -1,3 +1,4 @@
+pub mod Replies
 pub mod Promised
 pub mod CounterLists
 pub mod LentPool

@@ -21,11 +21,12 @@ use Rattle.slicing.specs.Limits.{maxRange}
 use Rattle.slicing.specs.Runs.{total, ownerAt, Coalesced}
 use Rattle.slicing_core.specs.Rows.{at, tableRows}
 use Rattle.lookups.specs.Copies.{Outcome, copiesOf}
-use Rattle.lookups.specs.Promises.{LookedIn, Looked, Answered, CopiedIn, Copied}
+use Rattle.lookups.specs.Promises.{ownerReply, ownerAnswer, LookedIn, Looked, Answered, CopiedIn, Copied}
 use Rattle.lookups.specs.declared.CopiesAnswer.{CopiesAnswer}
 use Rattle.lookups.specs.declared.Counters.{Counters}
 use Rattle.lookups.specs.declared.OwnerAnswer.{OwnerAnswer}
 use Rattle.lookups.specs.declared.OwnerAnswer.the-variants.{Owner, Refused}
+use Rattle.lookups.proofs.Replies.{ownerReply-answer}
 
 -- a table that covers a range has an interval, and its first begins at 0
 first-start : (p o : List ℕ) (R q : ℕ) → 1 ≤ R → Coalesced eqb (tableRows p o R 0 q) → total (tableRows p o R 0 q) ≡ R → (1 ≤ q) × (at p 0 ≡ 0)
@@ -50,7 +51,11 @@ probe-valid p v h block =
     rw e (fun-ext (λ t. found-valid p v h (pointOf block t (p .range)) (pointOf-below block t (p .range) (m .some))))
 
 pub looked-in : (p : Pool) (x : ℕ) (r : OwnerAnswer) → LookedIn (p .starts) (p .owners) (p .intervals) (p .devices) (p .range) x r → Looked p x r
-looked-in p x r k = record { valid = λ v. k ∙ same v (leb (p .range) x) (eqb (p .devices) 0) refl refl; any = k }
+looked-in p x r k = record {
+  valid = by-table;
+  reply = λ v. ap ownerReply (by-table v) ∙ ownerReply-answer (p .range) (p .devices) x (ownerAt (stateOf p .table) x);
+  any = k;
+}
   where
     same : ValidPool p → (a b : Bool) → leb (p .range) x ≡ a → eqb (p .devices) 0 ≡ b
         → cond a (Refused 13) (cond b (Refused 10) (Owner (ownerFound (p .starts) (p .owners) (clamped (p .intervals)) x)))
@@ -58,6 +63,9 @@ looked-in p x r k = record { valid = λ v. k ∙ same v (leb (p .range) x) (eqb 
     same v true b e f = refl
     same v false true e f = refl
     same v false false e f = ap Owner (found-valid p v (omega (arith, eqb-false (p .devices) 0 f)) x (leb-false (p .range) x e))
+
+    by-table : ValidPool p → r ≡ ownerAnswer (p .range) (p .devices) x (ownerAt (stateOf p .table) x)
+    by-table v = k .answer ∙ same v (leb (p .range) x) (eqb (p .devices) 0) refl refl
 
 pub copied-in : (p : Pool) (block k : ℕ) (c : Counters) (r : CopiesAnswer)
     → CopiedIn (p .starts) (p .owners) (p .intervals) (p .devices) (p .range) block k c r → Copied p block k c r

@@ -1,5 +1,6 @@
 -- What the offered lookups promise.
 --
+--   pointReply r, ownerReply r    document 01's number and value of an answer
 --   Located block t R r       r answers the call for the point of a probe
 --   LookedIn .., Looked p x r     r answers the call for the owner of a point, on arrays and on a pool
 --   CopiedIn .., Copied p ..      r answers the call for copies, on arrays and on a pool
@@ -14,6 +15,7 @@ use Rattle.lookup_core.specs.Walks.{ownerOf}
 use Rattle.placement.specs.Pools.{stateOf, ValidPool}
 use Rattle.placement.specs.declared.Pool.{Pool}
 use Rattle.slicing.specs.Limits.{maxRange, outside}
+use Rattle.slicing.specs.Replies.{Reply, replied, declined}
 use Rattle.slicing.specs.Runs.{ownerAt}
 use Rattle.lookups.specs.Copies.{Outcome, copiesOf}
 use Rattle.lookups.specs.Counting.{counted}
@@ -24,14 +26,26 @@ use Rattle.lookups.specs.declared.OwnerAnswer.the-variants.{Owner, Refus
 use Rattle.lookups.specs.declared.PointAnswer.{PointAnswer}
 use Rattle.lookups.specs.declared.PointAnswer.the-variants as PointAnswer
 
+-- ---- replies
+
+-- 'For an answer that is an enum, a definition gives this paper's number and values for each case of the enum.'
+abbrev pub pointReply : PointAnswer → Reply
+pointReply (PointAnswer.Point x) = replied x
+pointReply (PointAnswer.Refused n) = declined n
+
+abbrev pub ownerReply : OwnerAnswer → Reply
+ownerReply (Owner d) = replied d
+ownerReply (Refused n) = declined n
+
 -- ---- the point of a probe
 
 -- 'Try t (0 to 255)', R within its limits; else 2
 abbrev pub strange : ℕ → ℕ → Bool
 strange t R = ltb 255 t || outside maxRange R
 
-abbrev pub Located : ℕ → ℕ → ℕ → PointAnswer → Type 0
-Located block t R r = r ≡ cond (strange t R) (PointAnswer.Refused 2) (PointAnswer.Point (pointOf block t R))
+pub record Located (block t R : ℕ) (r : PointAnswer) : Type 0 where
+  pub answer : r ≡ cond (strange t R) (PointAnswer.Refused 2) (PointAnswer.Point (pointOf block t R))
+  pub reply : pointReply r ≡ cond (strange t R) (declined 2) (replied (pointOf block t R))
 
 -- ---- the owner of a point
 
@@ -39,12 +53,16 @@ Located block t R r = r ≡ cond (strange t R) (PointAnswer.Refused 2) (PointAns
 abbrev pub ownerAnswer : ℕ → ℕ → ℕ → ℕ → OwnerAnswer
 ownerAnswer R n x d = cond (leb R x) (Refused 13) (cond (eqb n 0) (Refused 10) (Owner d))
 
-abbrev pub LookedIn : List ℕ → List ℕ → ℕ → ℕ → ℕ → ℕ → OwnerAnswer → Type 0
-LookedIn s o q n R x r = r ≡ ownerAnswer R n x (ownerFound s o (clamped q) x)
+pub record LookedIn (s o : List ℕ) (q n R x : ℕ) (r : OwnerAnswer) : Type 0 where
+  pub answer : r ≡ ownerAnswer R n x (ownerFound s o (clamped q) x)
+  pub reply : ownerReply r ≡ cond (leb R x) (declined 13) (cond (eqb n 0) (declined 10) (replied (ownerFound s o (clamped q) x)))
 
 -- 'A plain call gives the owner of a point': of a valid pool, by the rules' table; of any other, the owner that halving finds
 pub record Looked (p : Pool) (x : ℕ) (r : OwnerAnswer) : Type 0 where
   pub valid : ValidPool p → r ≡ ownerAnswer (p .range) (p .devices) x (ownerAt (stateOf p .table) x)
+  pub reply : ValidPool p
+      → ownerReply r
+      ≡ cond (leb (p .range) x) (declined 13) (cond (eqb (p .devices) 0) (declined 10) (replied (ownerAt (stateOf p .table) x)))
   pub any : LookedIn (p .starts) (p .owners) (p .intervals) (p .devices) (p .range) x r
 
 -- ---- copies

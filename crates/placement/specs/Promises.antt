@@ -6,6 +6,7 @@
 --   Answered ..             the values of an answer, from an outcome of the rules
 --   Changed p lent k r l    r answers the change k on the pool p, and l is the lent list afterwards
 --   changeOf c              the rules' change that a call asks for
+--   shareReply r            document 01's number and value of the answer r to the call for a share
 --   shareAnswer s id        the answer to the call for the share of id
 --   Shared p id r           r is that answer of the pool p
 use mathlib.Core.Path.{_≡_}
@@ -17,6 +18,7 @@ use Rattle.slicing.specs.Changes.{State, fresh, Change, add, remove, resize, Ou
 use Rattle.slicing.specs.Demand3.{written}
 use Rattle.slicing.specs.Devices.{present}
 use Rattle.slicing.specs.Limits.{maxRange, maxLimit, maxId, outside}
+use Rattle.slicing.specs.Replies.{Reply, replied, declined}
 use Rattle.slicing.specs.ShareRule.{shareOf}
 use Rattle.slicing.specs.SixSteps.{Move, move}
 use Rattle.placement.specs.Pools.{stateOf, poolOf, ValidPool}
@@ -62,6 +64,11 @@ changeOf (Add d c) = add d c
 changeOf (Remove d) = remove d
 changeOf (Resize d c) = resize d c
 
+-- 'For an answer that is an enum, a definition gives this paper's number and values for each case of the enum.'
+abbrev pub shareReply : ShareAnswer → Reply
+shareReply (Share x) = replied x
+shareReply (Refused n) = declined n
+
 -- 2 for an id outside its limits, 5 for an absent one, else the share
 abbrev pub shareAnswer : State → ℕ → ShareAnswer
 shareAnswer s id =
@@ -71,4 +78,10 @@ shareAnswer s id =
 
 pub record Shared (p : Pool) (id : ℕ) (r : ShareAnswer) : Type 0 where
   pub valid : ValidPool p → r ≡ shareAnswer (stateOf p) id
+  pub reply : ValidPool p
+      → shareReply r
+      ≡ cond (outside maxId id) (declined 2)
+      (cond (present id (stateOf p .devices)) (replied (shareOf (stateOf p .range) (stateOf p .devices) id))
+      (declined 5))
   pub invalid : (ValidPool p → ⊥) → r ≡ Refused 2
+  pub invalidReply : (ValidPool p → ⊥) → shareReply r ≡ declined 2

@@ -1,4 +1,5 @@
 pub mod Limits
+pub mod Replies
 pub mod Runs
 pub mod Devices
 pub mod LargestRemainder

@@ -9,7 +9,7 @@ returns : tie.Need-returns
 returns c =
     let l = c .before in
     let a = l .before .before .args in
-    said-applied (a .history) (c .applied .result) (a .text .now) (said-as (a .history) (c .applied .result) (sym (l .line .ensures)) (c .applied .ensures))
+    said-applied (a .history) (c .applied .result) (a .text .now) (said-as (a .history) (c .applied .result) (sym (l .line .ensures .answer)) (c .applied .ensures))
 
 pub apply-spec : {M : Type 1} → statement M
 apply-spec = tie.close (tie.spec (λ c κs. search needs) (λ c κs. search needs) returns)

@@ -27,7 +27,7 @@ id-is v = sym (v .before .before .number .ensures .0) ∙ v .id .given .1
 value-is : (u : tie.After-answer) → (second (named u .before .before) ≡ Number (u .answer .given .0 .0)) × (outside maxCapacity (u .answer .given .0 .0) ≡ false)
 value-is u =
     capacity-known (u .answer .given .0 .0) (second (named u .before .before))
-    (sym (u .answer .given .1) ∙ u .before .before .capacity .ensures)
+    (sym (u .answer .given .1) ∙ u .before .before .capacity .ensures .answer)
 
 returns : tie.Need-returns
 returns c =
@@ -39,7 +39,7 @@ returns-2 c =
     let t = c .before in
     let m = t .before .before in
     let v = m .before .before in
-    pair-refused Add _ (second (v .before .before)) _ (id-is v) (m .capacity .result) (m .capacity .ensures) (t .enum-told2 .given .0 .0)
+    pair-refused Add _ (second (v .before .before)) _ (id-is v) (m .capacity .result) (m .capacity .ensures .answer) (t .enum-told2 .given .0 .0)
     (t .enum-told2 .given .1) (c .refusal-of .result) (c .refusal-of .ensures)
 
 returns-3 : tie.Need-returns-3

@@ -6,7 +6,7 @@ use native.Mathlib.Omega.{arith}
 use borrow.Author.Needs.{needs}
 use Rattle.history.specs.Text.{space}
 use Rattle.history.proofs.Splitting.{part-front, behind, Cut, cut-made}
-use Rattle.history.proofs.LineShapes.{line-one, line-remove, line-two, line-three, line-four}
+use Rattle.history.proofs.LineShapes.{line-one, line-remove, line-two, line-three, line-four, line-read}
 use Rattle.history.proofs.lines.line.Statement.{statement}
 use Rattle.history.proofs.lines.line.Tie as tie
 
@@ -23,7 +23,7 @@ second : (w : tie.Else2) → let ys = rest (w .before .before .before .before) i
 second w = cut-made space (rest (w .before .before .before .before)) (w .before .find2 .result) (w .before .find2 .ensures) (w .if2 .left)
 
 returns : tie.Need-returns
-returns c = line-one (text (c .before)) (c .before .find .result) (c .before .find .ensures) (c .if1 .taken)
+returns c = line-read (line-one (text (c .before)) (c .before .find .result) (c .before .find .ensures) (c .if1 .taken))
 
 slice-aggregate-same : tie.Need-slice-aggregate-same
 slice-aggregate-same c =
@@ -35,21 +35,22 @@ returns-2 c =
     let s = c .before .before in
     let w = s .before .before .before in
     let g = w .before in
-    c .remove-line .ensures
-    ∙ line-remove (first (g .before .before)) (g .find2 .result) (g .find2 .ensures) (w .if2 .taken) (sym (s .same .ensures) ∙ c .before .if3 .taken)
+    line-read
+    (c .remove-line .ensures
+    ∙ line-remove (first (g .before .before)) (g .find2 .result) (g .find2 .ensures) (w .if2 .taken) (sym (s .same .ensures) ∙ c .before .if3 .taken))
 
 returns-3 : tie.Need-returns-3
 returns-3 c =
     let s = c .before in
     let w = s .before .before .before in
     let g = w .before in
-    line-two (first (g .before .before)) (g .find2 .result) (g .find2 .ensures) (w .if2 .taken) (sym (s .same .ensures) ∙ c .if3 .left)
+    line-read (line-two (first (g .before .before)) (g .find2 .result) (g .find2 .ensures) (w .if2 .taken) (sym (s .same .ensures) ∙ c .if3 .left))
 
 returns-4 : tie.Need-returns-4
 returns-4 c =
     let h = c .before in
     let w = h .before .before in
-    line-four (first (w .before .before .before)) (second w) (h .find3 .result) (h .find3 .ensures) (c .if4 .taken)
+    line-read (line-four (first (w .before .before .before)) (second w) (h .find3 .result) (h .find3 .ensures) (c .if4 .taken))
 
 slice-aggregate-three-words : tie.Need-slice-aggregate-three-words
 slice-aggregate-three-words c =
@@ -66,7 +67,8 @@ returns-5 c =
     let k = c .before .before .before in
     let h = k .before in
     let w = h .before .before in
-    c .three-words .ensures ∙ line-three (first (w .before .before .before)) (second w) (h .find3 .result) (h .find3 .ensures) (k .if4 .left)
+    line-read
+    (c .three-words .ensures ∙ line-three (first (w .before .before .before)) (second w) (h .find3 .result) (h .find3 .ensures) (k .if4 .left))
 
 pub line-spec : {M : Type 1} → statement M
 line-spec =

@@ -13,7 +13,7 @@ returns c =
     let f = c .before .before .before in
     let a = f .before .before .before .args in
     part-ended (a .text .now) (a .from) _ (part-back (a .from) (a .text .now)) (f .find .result) (f .find .ensures .0) (c .before .before .if1 .taken) (c .line .result)
-    (c .line .ensures)
+    (c .line .ensures .answer)
 
 returns-2 : tie.Need-returns-2
 returns-2 c =

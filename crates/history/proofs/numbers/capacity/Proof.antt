@@ -5,7 +5,7 @@ use borrow.Author.Needs.{needs}
 use Rattle.history.specs.Lines.{capacityAnswer}
 use Rattle.history.specs.Text.{capacityIn}
 use Rattle.history.specs.declared.numbers.Parsed.the-variants.{Number}
-use Rattle.history.proofs.NumberWords.{answer-low, answer-high, answer-right}
+use Rattle.history.proofs.NumberWords.{answer-low, answer-high, answer-right, capacity-read}
 use Rattle.history.proofs.numbers.capacity.Statement.{statement}
 use Rattle.history.proofs.numbers.capacity.Tie as tie
 
@@ -14,16 +14,16 @@ told : (v : tie.After-value)
 told v = ap capacityAnswer (sym (v .value .given .1) ∙ v .before .before .thousandths .ensures)
 
 returns : tie.Need-returns
-returns c = ap capacityAnswer (sym (c .enum-told .given .1) ∙ c .before .before .thousandths .ensures)
+returns c = capacity-read (ap capacityAnswer (sym (c .enum-told .given .1) ∙ c .before .before .thousandths .ensures))
 
 returns-2 : tie.Need-returns-2
-returns-2 c = answer-low _ (c .if1 .taken) ∙ told (c .before .before)
+returns-2 c = capacity-read (answer-low _ (c .if1 .taken) ∙ told (c .before .before))
 
 returns-3 : tie.Need-returns-3
-returns-3 c = answer-high (c .before .before .before .value .given .0 .0) (omega (arith, c .if2 .taken)) ∙ told (c .before .before .before)
+returns-3 c = capacity-read (answer-high (c .before .before .before .value .given .0 .0) (omega (arith, c .if2 .taken)) ∙ told (c .before .before .before))
 
 returns-4 : tie.Need-returns-4
-returns-4 c = answer-right _ (c .before .if1 .left) (c .if2 .left) ∙ told (c .before .before .before)
+returns-4 c = capacity-read (answer-right _ (c .before .if1 .left) (c .if2 .left) ∙ told (c .before .before .before))
 
 pub capacity-spec : {M : Type 1} → statement M
 capacity-spec =
