@@ -2,9 +2,11 @@
 --
 --   Inside k x        x lies within 1 to k
 --   Decided P         P, or not P
+--   Says u n x        the reply u has the number n and the value x
+-- replies: says
 -- outside: inside-false, inside-true; two-inside, two-outside (of two numbers); one-decided, two-decided
 -- present: listed-present, unlisted-absent; length-devices
-use mathlib.Core.Path.{_≡_, refl, sym, _∙_}
+use mathlib.Core.Path.{_≡_, refl, sym, ap, _∙_}
 use mathlib.Core.Bool.{Bool, true, false, _||_, true≢false}
 use Prim.Native.Nat.{ℕ, _≤_}
 use native.Mathlib.Omega.{arith}
@@ -12,6 +14,7 @@ use lib.ListN.{length}
 use borrow.Author.Tests.{le-ltb}
 use Rattle.slicing.specs.Devices.{present}
 use Rattle.slicing.specs.Limits.{outside}
+use Rattle.slicing.specs.Replies.{Reply}
 use Rattle.slicing.proofs.Changes.{or-false, outside-false}
 use Rattle.slicing_core.proofs.DeviceRows.{position-present, present-without}
 use Rattle.slicing_core.proofs.Rows.{length-deviceRows}
@@ -40,6 +43,12 @@ module _ (k x l y : ℕ) where
   two-outside h =
       not-true (outside k x || outside l y)
       (λ e. let t = or-false (outside k x) (outside l y) e in h (outside-false k x (t .0)) (outside-false l y (t .1)))
+
+abbrev pub Says : Reply → ℕ → ℕ → Type 0
+Says u n x = (u .number ≡ n) × (u .value ≡ x)
+
+pub says : {u : Reply} {n x : ℕ} → u ≡ record { number = n; value = x } → Says u n x
+says e = (ap (λ w. w .number) e, ap (λ w. w .value) e)
 
 pub data Decided (P : Type 0) : Type 0 where
   within : P → Decided P

@@ -2,7 +2,7 @@
 --
 -- read: read-short (14, under 19 bytes), read-unmarked (14, another mark), read-versioned (15), read-faulty (16), read-image
 -- write: write-invalid (2), write-short (17), write-room
-use mathlib.Core.Path.{_≡_, refl, sym, ap, _∙_}
+use mathlib.Core.Path.{_≡_, sym, ap, _∙_}
 use mathlib.Core.Bool.{true, false, false≢true, true≢false, _&&_}
 use mathlib.Core.List.{List, _++_}
 use Prim.Native.Nat.{ℕ, _≤_, _<_}
@@ -12,9 +12,10 @@ use Rattle.placement.specs.Pools.{stateOf, poolOf, ValidPool}
 use Rattle.placement.specs.declared.Pool.{Pool}
 use Rattle.placement.specs.declared.PoolAnswer.{PoolAnswer}
 use Rattle.images.specs.Format.{imageOf, numberAt, versionIn, stateIn, marked, Sound, Image}
-use Rattle.images.specs.Promises.{refusal, ReadAs, unmarked, versioned, faulty, accepted, WrittenAs}
+use Rattle.images.specs.Promises.{refusal, ReadAs, unmarked, versioned, faulty, accepted, writeReply, WrittenAs}
 use Rattle.images.specs.declared.WriteAnswer.{WriteAnswer}
 use Rattle.images.specs.declared.WriteAnswer.the-variants.{Written, Refused}
+use Rattle.guarantees.proofs.Conditions.{Says, says}
 use Rattle.guarantees.proofs.Pools.{Bare}
 
 -- the first three bytes are RSL, 52 53 4C hexadecimal
@@ -84,20 +85,21 @@ module _ (xs : List ℕ) (r : PoolAnswer) where
           read-image h = pooled k (marked-mark xs l m) v h
 
 module _ (p : Pool) (before : List ℕ) (r : WriteAnswer) (after : List ℕ) (k : WrittenAs p before r after) where
-  -- a pool that is not valid
-  pub write-invalid : (ValidPool p → ⊥) → (r ≡ Refused 2) × (after ≡ before)
-  write-invalid h = k .invalid h
+  -- a pool that is not valid: the buffer stays
+  pub write-invalid : (ValidPool p → ⊥) → (r ≡ Refused 2) × (after ≡ before) × Says (writeReply r) 2 0
+  write-invalid h = (k .invalid h .0, k .invalid h .1, says (k .invalidReply h))
 
   module _ (v : ValidPool p) where
-    -- a buffer too short for the image
-    pub write-short : length before < length (imageOf (stateOf p)) → (r ≡ Refused 17) × (after ≡ before)
+    -- a buffer too short for the image stays
+    pub write-short : length before < length (imageOf (stateOf p)) → (r ≡ Refused 17) × (after ≡ before) × Says (writeReply r) 17 0
     write-short h =
         let e = lt-ltb (length before) (length (imageOf (stateOf p))) h in
-        (k .valid v .0 ∙ rw e, k .valid v .1 ∙ rw e)
+        (k .valid v .0 ∙ rw e, k .valid v .1 ∙ rw e, says (k .reply v ∙ rw e))
 
     -- the image and its length; the bytes past it stay
     pub write-room : length (imageOf (stateOf p)) ≤ length before
         → (r ≡ Written (length (imageOf (stateOf p)))) × (after ≡ imageOf (stateOf p) ++ drop (length (imageOf (stateOf p))) before)
+        × Says (writeReply r) 0 (length (imageOf (stateOf p)))
     write-room h =
         let e = le-ltb (length before) (length (imageOf (stateOf p))) h in
-        (k .valid v .0 ∙ rw e, k .valid v .1 ∙ rw e)
+        (k .valid v .0 ∙ rw e, k .valid v .1 ∙ rw e, says (k .reply v ∙ rw e))

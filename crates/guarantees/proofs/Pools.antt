@@ -1,21 +1,22 @@
--- The outcomes of `placement::fresh`, `valid` and `share`.
+-- The outcomes of `placement::fresh` and `share`.
+--
+--   Bare R M p     p has the range R and the limit M, and nothing else
 --
 -- fresh: fresh-outside (2), fresh-inside
 -- share: share-invalid (2), share-outside (2), share-absent (5), share-present
 use mathlib.Core.Path.{_≡_, _∙_}
-use mathlib.Core.List.{[], _∷_}
 use Prim.Native.Nat.{ℕ}
 use lib.ListN.{replicate}
 use Rattle.slicing.specs.Changes.{fresh}
 use Rattle.slicing.specs.ShareRule.{shareOf}
 use Rattle.placement.specs.Pools.{stateOf, poolOf, ValidPool}
-use Rattle.placement.specs.Promises.{Fresh, Shared}
+use Rattle.placement.specs.Promises.{Fresh, shareReply, Shared}
 use Rattle.placement.specs.declared.Pool.{Pool}
 use Rattle.placement.specs.declared.PoolAnswer.{PoolAnswer}
 use Rattle.placement.specs.declared.ShareAnswer.{ShareAnswer}
 use Rattle.placement.specs.declared.ShareAnswer.the-variants.{Share, Refused}
 use Rattle.demand3.specs.Points.{Listed}
-use Rattle.guarantees.proofs.Conditions.{Inside, inside-false, inside-true, two-inside, two-outside, listed-present, unlisted-absent}
+use Rattle.guarantees.proofs.Conditions.{Inside, inside-false, inside-true, two-inside, two-outside, Says, says, listed-present, unlisted-absent}
 
 -- a pool of the range R and the limit M, without devices
 abbrev pub Bare : ℕ → ℕ → Pool → Type 0
@@ -41,20 +42,27 @@ module _ (R M : ℕ) (r : PoolAnswer) (k : Fresh R M r) where
   fresh-inside i j = let e = two-inside 4294967296 R 4096 M i j in (rw e at (k .number), rw e at (k .pool))
 
 module _ (p : Pool) (id : ℕ) (r : ShareAnswer) (k : Shared p id r) where
-  -- a pool that is not valid: 2
-  pub share-invalid : (ValidPool p → ⊥) → r ≡ Refused 2
-  share-invalid h = k .invalid h
+  -- a pool that is not valid
+  pub share-invalid : (ValidPool p → ⊥) → (r ≡ Refused 2) × Says (shareReply r) 2 0
+  share-invalid h = (k .invalid h, says (k .invalidReply h))
 
   module _ (v : ValidPool p) where
-    -- an id outside its limits: 2
-    pub share-outside : (Inside 65535 id → ⊥) → r ≡ Refused 2
-    share-outside h = k .valid v ∙ rw (inside-true 65535 id h)
+    -- an id outside 1 to 65,535
+    pub share-outside : (Inside 65535 id → ⊥) → (r ≡ Refused 2) × Says (shareReply r) 2 0
+    share-outside h = let e = inside-true 65535 id h in (k .valid v ∙ rw e, says (k .reply v ∙ rw e))
 
     module _ (i : Inside 65535 id) where
-      -- an id that the pool does not list: 5
-      pub share-absent : (Listed p id → ⊥) → r ≡ Refused 5
-      share-absent h = k .valid v ∙ rw (inside-false 65535 id i, unlisted-absent p id h)
+      -- an id that the pool does not list
+      pub share-absent : (Listed p id → ⊥) → (r ≡ Refused 5) × Says (shareReply r) 5 0
+      share-absent h =
+          let e = inside-false 65535 id i in
+          let f = unlisted-absent p id h in
+          (k .valid v ∙ rw (e, f), says (k .reply v ∙ rw (e, f)))
 
-      pub share-present : Listed p id → r ≡ Share (shareOf (p .range) (stateOf p .devices) id)
+      pub share-present : Listed p id
+          → (r ≡ Share (shareOf (p .range) (stateOf p .devices) id)) × Says (shareReply r) 0 (shareOf (p .range) (stateOf p .devices) id)
       unfolding stateOf
-      share-present h = k .valid v ∙ rw (inside-false 65535 id i, listed-present p id h)
+      share-present h =
+          let e = inside-false 65535 id i in
+          let f = listed-present p id h in
+          (k .valid v ∙ rw (e, f), says (k .reply v ∙ rw (e, f)))
