@@ -1,1 +1,1 @@
-// The examples that document 01 marks for proof, in one group: proofs/Marked.antt. This crate has no code.
+// The examples that document 01 marks for proof, in one group: specs/Marked.antt has the statements, proofs/Marked.antt the proof. This crate has no code.
