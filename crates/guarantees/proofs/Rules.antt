@@ -1,17 +1,17 @@
--- What a reader expects of the rules, each as a theorem that stands on the definitions alone. The names are those of docs/GUARANTEES.md.
+-- What a reader expects of the rules, each as a theorem that stands on the definitions alone.
 --
 -- SHA-1: sixteen-words (the schedule of sixteen words gives what that of eighty does), whole-blocks
 -- shares: share-near (strictly within one of R × c / C)
--- order of the checks: two-first, five-before-seven, four-before-six, eight-before-nine
--- copies: copies-distinct, copies-owner, copies-prefix; counters-fresh
--- images: image-read, read-image, read-written, written-read, images-differ
--- texts: line-for-line, line-count, text-parts, texts-joined, texts-printed, texts-both; refused-stays, refused-dropped, accepted-alone,
--- accepted-same, same-text
+-- copies: copies-distinct, copies-first, copies-prefix, copies-owner; counters-fresh
+-- images: read-image, read-written, read-written-front, image-accepted, written-read, written-read-front, images-differ
+-- texts: line-for-line, line-count, text-parts, text-printed; texts-joined, texts-printed, texts-both; refused-stays, refused-dropped,
+-- accepted-alone, same-text, same-accepted
 use mathlib.Core.Path.{_≡_}
 use mathlib.Core.List.{List, [], _∷_, _++_}
 use Prim.Native.Nat.{ℕ, suc, _+_, _*_, _≤_, _<_, min}
 use lib.ListN.{length, take, drop}
-use Rattle.sha1.specs.Fips180.{Hash, schedule, rounds, pad, N}
+use Rattle.sha1.specs.Fips180.{schedule, rounds, pad, N}
+use Rattle.sha1.specs.declared.Hash.{Hash}
 use Rattle.sha1.specs.Sixteen.{run}
 use Rattle.sha1.proofs.Agree as Sha1
 use Rattle.sha1.proofs.Padding as Padding
@@ -85,7 +85,7 @@ counters-fresh = Counted.counters-fresh
 
 -- ---- images: the elements of a slice of bytes are below 256
 
-module _ (xs : List ℕ) (b : (i : ℕ) → i < length xs → at xs i < 256) (r : PoolAnswer) (a : ReadAs xs r) (z : r .refusal ≡ 0) where
+module _ (xs : List ℕ) (b : (i : ℕ) → at xs i < 256) (r : PoolAnswer) (a : ReadAs xs r) (z : r .refusal ≡ 0) where
   -- what is read is valid, and its image is the bytes read
   pub read-image : ValidPool (r .pool) × (imageOf (stateOf (r .pool)) ≡ xs)
   read-image = (RoundTrips.accepted-valid xs r a z, RoundTrips.accepted-image xs b r a z)
@@ -125,6 +125,10 @@ images-differ = RoundTrips.images-differ
 -- a line is printed for each line of a text, one for `table`, and one for each interval
 pub line-for-line : (xs : List ℕ) → lineEnds (replayed xs) ≡ lineCount (split 0x0a xs) + 1 + length (intervals 0 (poolAfter xs .table))
 line-for-line = PrintedLines.lineEnds-replayed
+
+-- a text whose last line is finished has as many lines as line ends
+pub line-count : (xs : List ℕ) → Complete xs → lineCount (split 0x0a xs) ≡ lineEnds xs
+line-count = TextLines.lineCount-complete
 
 -- the parts of a transcript: the lines, an unfinished last line, the table
 pub text-parts : (xs : List ℕ)
