@@ -97,7 +97,7 @@ module _ (o : ℕ → ℕ) (n k : ℕ) where
             arith,
             length-append (take k (firsts o 256)) (replicate (8 - k) 0),
             length-take k (firsts o 256),
-            length-replicate (8 - k) 0,
+            length-replicate {A = ℕ} (8 - k) 0,
             h .enough,
             h .asked .1,
           )

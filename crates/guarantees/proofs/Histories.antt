@@ -163,12 +163,12 @@ module _ (xs : List ℕ) (r : LineAnswer) (k : LineRead xs r) where
   pub line-shapeless : Shapeless xs → (r ≡ Refused 1) × Reads r 1 []
   line-shapeless h =
       let e = reads (Refused 1) (shapeless-one xs h) in
-      (e .0, ap (λ u. u .number) (e .1), ap (λ u. u .values) (e .1))
+      (e .0, (ap (λ u. u .number) (e .1), ap (λ u. u .values) (e .1)))
 
   pub line-far : Far xs → (r ≡ Refused 2) × Reads r 2 []
   line-far h =
       let e = reads (Refused 2) (far-two xs h) in
-      (e .0, ap (λ u. u .number) (e .1), ap (λ u. u .values) (e .1))
+      (e .0, (ap (λ u. u .number) (e .1), ap (λ u. u .values) (e .1)))
 
   said-reads : {l : LineAnswer} → Shapes xs l → lineReply r ≡ lineReply l → Reads r 0 (valuesOf l)
   said-reads (range-line w a b i j) e = (ap (λ u. u .number) e, ap (λ u. u .values) e)
@@ -285,8 +285,8 @@ module _ (xs : List ℕ) (r : PoolAnswer) (k : Left xs r) where
   -- more than 65,536 bytes: a fresh pool with R = 1 and M = 1
   pub left-long : 65536 < length xs → (r .refusal ≡ 2) × Bare 1 1 (r .pool)
   unfolding poolOf
-  left-long h = let e = k ∙ rw (lt-ltb 65536 (length xs) h) in (ap (λ a. a .refusal) e, ap (λ a. a .pool) e)
+  left-long h = let e = rw (lt-ltb 65536 (length xs) h) at k in (ap (λ a. a .refusal) e, ap (λ a. a .pool) e)
 
   -- the pool that the accepted lines leave
   pub left-pool : length xs ≤ 65536 → (r .refusal ≡ 0) × (r .pool ≡ poolOf (poolAfter xs))
-  left-pool h = let e = k ∙ rw (le-ltb 65536 (length xs) h) in (ap (λ a. a .refusal) e, ap (λ a. a .pool) e)
+  left-pool h = let e = rw (le-ltb 65536 (length xs) h) at k in (ap (λ a. a .refusal) e, ap (λ a. a .pool) e)

@@ -143,7 +143,7 @@ halvedOf p block = ownerOf (p .starts) (p .owners) (p .intervals) (min (p .range
 module _ (p : Pool) (block k : ℕ) (c : Counters) (r : CopiesAnswer) (h : Copied p block k c r) where
   -- of every pool: k is 0 or above 8
   pub copies-outside : (Inside 8 k → ⊥) → Fails 11 0 c r
-  copies-outside l = fails (h .any) (eleven l)
+  copies-outside l = fails {o = halvedOf p block} {n = p .devices} (h .any) (eleven l)
 
   module _ (i : Inside 8 k) where
     -- no device
@@ -171,7 +171,7 @@ halvedIn s o q R block = ownerOf s o q (min R 4294967296) block
 
 module _ (s o : List ℕ) (q n R block k : ℕ) (c : Counters) (r : CopiesAnswer) (h : CopiedIn s o q n R block k c r) where
   pub lent-outside : (Inside 8 k → ⊥) → Fails 11 0 c r
-  lent-outside l = fails (h .found) (eleven l)
+  lent-outside l = fails {o = halvedIn s o q R block} {n = n} (h .found) (eleven l)
 
   module _ (i : Inside 8 k) where
     pub lent-none : n ≡ 0 → Fails 10 0 c r

@@ -1,14 +1,16 @@
--- The outcomes of `placement::fresh` and `share`.
+-- The outcomes of `placement::fresh`, `valid::valid` and `share`.
 --
 --   Bare R M p     p has the range R and the limit M, and nothing else
---
 -- fresh: fresh-outside (2), fresh-inside
+-- valid: valid-yes, valid-no; valid-decided
 -- share: share-invalid (2), share-outside (2), share-absent (5), share-present
-use mathlib.Core.Path.{_≡_, _∙_}
+use mathlib.Core.Path.{_≡_, _∙_, subst}
+use mathlib.Core.Bool.{Bool, true, false}
 use Prim.Native.Nat.{ℕ}
 use lib.ListN.{replicate}
 use Rattle.slicing.specs.Changes.{fresh}
 use Rattle.slicing.specs.ShareRule.{shareOf}
+use Rattle.slicing_core.specs.Stages.{Decides}
 use Rattle.placement.specs.Pools.{stateOf, poolOf, ValidPool}
 use Rattle.placement.specs.Promises.{Fresh, shareReply, Shared}
 use Rattle.placement.specs.declared.Pool.{Pool}
@@ -16,7 +18,7 @@ use Rattle.placement.specs.declared.PoolAnswer.{PoolAnswer}
 use Rattle.placement.specs.declared.ShareAnswer.{ShareAnswer}
 use Rattle.placement.specs.declared.ShareAnswer.the-variants.{Share, Refused}
 use Rattle.demand3.specs.Points.{Listed}
-use Rattle.guarantees.proofs.Conditions.{Inside, inside-false, inside-true, two-inside, two-outside, Says, says, listed-present, unlisted-absent}
+use Rattle.guarantees.proofs.Conditions.{Inside, inside-false, inside-true, two-inside, two-outside, Decided, within, without, Says, says, listed-present, unlisted-absent}
 
 -- a pool of the range R and the limit M, without devices
 abbrev pub Bare : ℕ → ℕ → Pool → Type 0
@@ -40,6 +42,17 @@ module _ (R M : ℕ) (r : PoolAnswer) (k : Fresh R M r) where
   pub fresh-inside : Inside 4294967296 R → Inside 4096 M → (r .refusal ≡ 0) × Bare R M (r .pool)
   unfolding poolOf
   fresh-inside i j = let e = two-inside 4294967296 R 4096 M i j in (rw e at (k .number), rw e at (k .pool))
+
+module _ (p : Pool) (r : Bool) (k : Decides r (ValidPool p)) where
+  pub valid-yes : r ≡ true → ValidPool p
+  valid-yes e = subst (λ b. Decides b (ValidPool p)) e k
+
+  pub valid-no : r ≡ false → ValidPool p → ⊥
+  valid-no e = subst (λ b. Decides b (ValidPool p)) e k
+
+pub valid-decided : (p : Pool) (r : Bool) → Decides r (ValidPool p) → Decided (ValidPool p)
+valid-decided p true k = within k
+valid-decided p false k = without k
 
 module _ (p : Pool) (id : ℕ) (r : ShareAnswer) (k : Shared p id r) where
   -- a pool that is not valid
