@@ -7,16 +7,15 @@
 --   Passes s lent k es ..    it is accepted: the devices, the table and the moves
 -- Laws: stops, passes (the rules' outcome); change-known (every change is refused or accepted so).
 use mathlib.Core.Path.{_≡_, refl, _∙_}
-use mathlib.Core.Bool.{Bool, true, false, not, _||_}
+use mathlib.Core.Bool.{Bool, true, false}
 use mathlib.Core.List.{List, [], _∷_}
 use Prim.Native.Nat.{ℕ, _≤_, _<_}
 use native.Mathlib.Omega.{arith}
 use lib.Dec.{leb, ltb}
 use lib.ListN.{length}
 use borrow.Author.Tests.{lt-ltb, le-ltb, le-leb, lt-leb, ltb-true, ltb-false, leb-true, leb-false}
-use Rattle.slicing.specs.Changes.{State, Change, add, remove, resize, Outcome, refused, stop, accepted, settle, admit, change}
+use Rattle.slicing.specs.Changes.{State, Change, add, remove, resize, refused, stop, accepted, settle, admit, change}
 use Rattle.slicing.specs.Devices.{Device, device, present, insert, delete, update}
-use Rattle.slicing.specs.Limits.{outside}
 use Rattle.slicing.specs.Runs.{Run, _of_}
 use Rattle.slicing.specs.ShareRule.{shares}
 use Rattle.slicing.specs.SixSteps.{Turn, turns, newTable, Move, moves}
@@ -85,7 +84,8 @@ module _ (s : State) (lent : List Move) where
       settles k ∙ rw (le-ltb (s .limit) (length (newTable (turnsTo s es))) l, lt-ltb (length lent) (length (moves (turnsTo s es))) m)
 
   admit-none : (d c : ℕ) (es : List Device) → length es ≡ 0
-      → stop s lent (present d es) 4 (stop s lent (leb 256 (length es)) 6 (admit s lent d c es)) ≡ accepted s lent (device d c ∷ []) ((s .range of d) ∷ []) []
+      → stop s lent (present d es) 4 (stop s lent (leb 256 (length es)) 6 (admit s lent d c es))
+      ≡ accepted s lent (device d c ∷ []) ((s .range of d) ∷ []) []
   admit-none d c [] h = refl
   admit-none d c (e ∷ es) h = absurd (omega arith)
 
@@ -127,7 +127,8 @@ module _ (s : State) (lent : List Move) where
     known-resize true f = known-settles (resize d c) _ (resizes i j f)
     known-resize false f = stopped (resize-five i j f)
 
-  known-remove : (d : ℕ) → Inside 65535 d → (u : Bool) → present d (s .devices) ≡ u → (w : Bool) → leb (length (s .devices)) 1 ≡ w → Known s lent (remove d)
+  known-remove : (d : ℕ) → Inside 65535 d → (u : Bool) → present d (s .devices) ≡ u → (w : Bool) → leb (length (s .devices)) 1 ≡ w
+      → Known s lent (remove d)
   known-remove d i false f w g = stopped (remove-five i f)
   known-remove d i true f true g = stopped (remove-seven i f (leb-true (length (s .devices)) 1 g))
   known-remove d i true f false g = known-settles (remove d) _ (removes i f (leb-false (length (s .devices)) 1 g))

@@ -34,7 +34,7 @@ use Rattle.history.specs.Histories.{poolAfter}
 use Rattle.history.specs.Replay.{replayed, transcript}
 use Rattle.gorvyts.specs.Promises.{OnImage, unmarked, versioned, faulty, accepted, Checked, Stored, FreshStored, ReplayStored, Transcript, Moved, Changed, Told, Owned, Copied, outcomeOf, CopiedOne, rowOf, countersIn, tallyOf, countedBy, rowsFor, countedFor, CopiedMany}
 use Rattle.guarantees.proofs.ChangeRules.{Stops, add-two, remove-two, resize-two, add-four, remove-five, resize-five, remove-seven, add-six, eight, nine, Passes, stops, passes}
-use Rattle.guarantees.proofs.Conditions.{Inside, inside-false, inside-true, two-inside, two-outside}
+use Rattle.guarantees.proofs.Conditions.{Inside, two-inside, two-outside}
 use Rattle.guarantees.proofs.CopyRules.{NoCopies, eleven, ten, twelve, HasCopies, no-copies, has-copies, no-copies-number, length-owners}
 use Rattle.guarantees.proofs.Histories.{tooLongBytes}
 use Rattle.guarantees.proofs.Images.{Mark, marked-short, marked-other, marked-mark}

@@ -1,7 +1,8 @@
 -- The outcomes of `placement::add`, `remove`, `resize` and `changed`, whose list has four numbers a place. ChangeRules.antt has the lines of `Stops` and
 -- `Passes`: one for each refusal and each result.
 --
--- flat-invalid (2, a pool that is not valid), flat-stops (every other refusal), flat-passes (every result). ChangeRules.antt `change-known`: there is no other outcome
+-- flat-invalid (2, a pool that is not valid), flat-stops (every other refusal), flat-passes (every result). There is no other outcome:
+-- ChangeRules.antt `change-known`
 use mathlib.Core.Path.{_≡_, ap, _∙_}
 use mathlib.Core.List.{List, _++_}
 use Prim.Native.Nat.{ℕ, _*_}

@@ -1,18 +1,16 @@
 -- The outcomes of `history::capacity`, `line`, `apply`, `transcript` and `pool_after`.
 --
 --   Reads r n vs              the line's answer r has the number n and the values vs
---   Shapes xs l               the line xs is of one of the four shapes, its numbers within their limits, and says l
---   Far xs, Shapeless xs      it is of a shape and a number is outside its limits; it is of none of the shapes
 --   Asks l k                  the line l asks for the change k
 --   Unchanged n h r           r answers n and zeros, and the history is as it was
 -- capacity: capacity-shapeless (1), capacity-outside (2), capacity-known
--- line: line-shapeless (1), line-far (2), line-said
+-- line: line-shapeless (1), line-far (2), line-said (LineRules.antt says which line is which)
 -- apply: apply-refused (the line's 1 or 2), apply-early (3), apply-late (3), apply-invalid (2), apply-stops (every refusal of a change);
 -- apply-range, apply-passes
 -- transcript: transcript-short (17), transcript-long (`too long`), transcript-printed
 -- pool_after: left-long (2), left-pool
 use mathlib.Core.Path.{_≡_, sym, ap, _∙_}
-use mathlib.Core.Bool.{true, false, _||_}
+use mathlib.Core.Bool.{true, false}
 use mathlib.Core.List.{List, [], _∷_, _++_}
 use Prim.Native.Nat.{ℕ, _≤_, _<_}
 use lib.ListN.{length, drop}
@@ -22,26 +20,25 @@ use Rattle.slicing.specs.Devices.{Device}
 use Rattle.slicing.specs.Runs.{Run}
 use Rattle.slicing.specs.SixSteps.{Move, points}
 use Rattle.placement.specs.Pools.{stateOf, poolOf, ValidPool}
-use Rattle.placement.specs.declared.Pool.{Pool}
 use Rattle.placement.specs.declared.PoolAnswer.{PoolAnswer}
 use Rattle.history.specs.Histories.{poolAfter}
-use Rattle.history.specs.Lines.{capacityReply, CapacityRead, lineReply, same, lineIn, LineRead}
+use Rattle.history.specs.Lines.{capacityReply, CapacityRead, lineReply, lineIn, LineRead}
 use Rattle.history.specs.Promises.{transcriptReply, settledLine, refused, appliedLine, Applied, Transcribed, Left}
 use Rattle.history.specs.Replay.{places, replayed, transcript}
-use Rattle.history.specs.Text.{split, numberIn, capacityIn}
+use Rattle.history.specs.Text.{capacityIn}
 use Rattle.history.specs.declared.applying.History.{History}
 use Rattle.history.specs.declared.applying.LineResult.{LineResult}
 use Rattle.history.specs.declared.lines.LineAnswer.{LineAnswer}
 use Rattle.history.specs.declared.lines.LineAnswer.the-variants.{Range, Add, Remove, Resize, Refused}
 use Rattle.history.specs.declared.numbers.CapacityAnswer.{CapacityAnswer}
 use Rattle.history.specs.declared.numbers.CapacityAnswer.the-variants as Capacity
-use Rattle.history.specs.declared.numbers.Parsed.{Parsed}
 use Rattle.history.specs.declared.numbers.Parsed.the-variants as Word
 use Rattle.history.specs.declared.transcripts.TranscriptAnswer.{TranscriptAnswer}
 use Rattle.history.specs.declared.transcripts.TranscriptAnswer.the-variants as Text
 use Rattle.guarantees.proofs.ChangeRules.{Stops, Passes, stops, passes}
 use Rattle.guarantees.proofs.Changes.{withTable}
-use Rattle.guarantees.proofs.Conditions.{Inside, inside-false, inside-true, two-inside, two-outside, Decided, within, without, Says, says}
+use Rattle.guarantees.proofs.Conditions.{Inside, inside-false, inside-true, Decided, within, without, Says, says}
+use Rattle.guarantees.proofs.LineRules.{Shapes, range-line, add-line, remove-line, resize-line, Far, Shapeless, shaped, far-two, shapeless-one}
 use Rattle.guarantees.proofs.Pools.{Bare}
 
 -- ---- capacities
@@ -60,90 +57,6 @@ module _ (w : List ℕ) (r : CapacityAnswer) (k : CapacityRead w r) where
     capacity-known i = let f = inside-false 1000000 c i in (k .answer ∙ rw (e, f), says (k .reply ∙ rw (e, f)))
 
 -- ---- lines
-
--- the four first words
-abbrev pub rangeBytes : List ℕ
-rangeBytes = 0x72 ∷ 0x61 ∷ 0x6e ∷ 0x67 ∷ 0x65 ∷ []
-
-abbrev pub addBytes : List ℕ
-addBytes = 0x61 ∷ 0x64 ∷ 0x64 ∷ []
-
-abbrev pub removeBytes : List ℕ
-removeBytes = 0x72 ∷ 0x65 ∷ 0x6d ∷ 0x6f ∷ 0x76 ∷ 0x65 ∷ []
-
-abbrev pub resizeBytes : List ℕ
-resizeBytes = 0x72 ∷ 0x65 ∷ 0x73 ∷ 0x69 ∷ 0x7a ∷ 0x65 ∷ []
-
--- the words of a line, with one space, 20 hexadecimal, between
-abbrev pub words : List ℕ → List (List ℕ)
-words xs = split 0x20 xs
-
-pub data Shapes (xs : List ℕ) : LineAnswer → Type 0 where
-  range-line : {a b : List ℕ} {R M : ℕ} → words xs ≡ rangeBytes ∷ a ∷ b ∷ [] → numberIn a ≡ Word.Number R → numberIn b ≡ Word.Number M
-      → Inside 4294967296 R → Inside 4096 M → Shapes xs (Range R M)
-  add-line : {a b : List ℕ} {d c : ℕ} → words xs ≡ addBytes ∷ a ∷ b ∷ [] → numberIn a ≡ Word.Number d → capacityIn b ≡ Word.Number c
-      → Inside 65535 d → Inside 1000000 c → Shapes xs (Add d c)
-  remove-line : {a : List ℕ} {d : ℕ} → words xs ≡ removeBytes ∷ a ∷ [] → numberIn a ≡ Word.Number d → Inside 65535 d → Shapes xs (Remove d)
-  resize-line : {a b : List ℕ} {d c : ℕ} → words xs ≡ resizeBytes ∷ a ∷ b ∷ [] → numberIn a ≡ Word.Number d → capacityIn b ≡ Word.Number c
-      → Inside 65535 d → Inside 1000000 c → Shapes xs (Resize d c)
-
-pub data Far (xs : List ℕ) : Type 0 where
-  range-far : {a b : List ℕ} {R M : ℕ} → words xs ≡ rangeBytes ∷ a ∷ b ∷ [] → numberIn a ≡ Word.Number R → numberIn b ≡ Word.Number M
-      → (Inside 4294967296 R → Inside 4096 M → ⊥) → Far xs
-  add-far : {a b : List ℕ} {d c : ℕ} → words xs ≡ addBytes ∷ a ∷ b ∷ [] → numberIn a ≡ Word.Number d → capacityIn b ≡ Word.Number c
-      → (Inside 65535 d → Inside 1000000 c → ⊥) → Far xs
-  remove-far : {a : List ℕ} {d : ℕ} → words xs ≡ removeBytes ∷ a ∷ [] → numberIn a ≡ Word.Number d → (Inside 65535 d → ⊥) → Far xs
-  resize-far : {a b : List ℕ} {d c : ℕ} → words xs ≡ resizeBytes ∷ a ∷ b ∷ [] → numberIn a ≡ Word.Number d → capacityIn b ≡ Word.Number c
-      → (Inside 65535 d → Inside 1000000 c → ⊥) → Far xs
-
-pub data Shapeless (xs : List ℕ) : Type 0 where
-  -- no word, one, or more than three
-  no-words : words xs ≡ [] → Shapeless xs
-  one-word : {k : List ℕ} → words xs ≡ k ∷ [] → Shapeless xs
-  more-words : {k a b c : List ℕ} {ws : List (List ℕ)} → words xs ≡ k ∷ a ∷ b ∷ c ∷ ws → Shapeless xs
-  -- another first word
-  two-words : {k a : List ℕ} → words xs ≡ k ∷ a ∷ [] → same k removeBytes ≡ false → Shapeless xs
-  three-words : {k a b : List ℕ} → words xs ≡ k ∷ a ∷ b ∷ [] → same k rangeBytes ≡ false → same k addBytes ≡ false → same k resizeBytes ≡ false
-      → Shapeless xs
-  -- a word that is no number, or no capacity
-  range-first : {a b : List ℕ} → words xs ≡ rangeBytes ∷ a ∷ b ∷ [] → numberIn a ≡ Word.Shapeless → Shapeless xs
-  range-second : {a b : List ℕ} {R : ℕ} → words xs ≡ rangeBytes ∷ a ∷ b ∷ [] → numberIn a ≡ Word.Number R → numberIn b ≡ Word.Shapeless → Shapeless xs
-  add-first : {a b : List ℕ} → words xs ≡ addBytes ∷ a ∷ b ∷ [] → numberIn a ≡ Word.Shapeless → Shapeless xs
-  add-second : {a b : List ℕ} {d : ℕ} → words xs ≡ addBytes ∷ a ∷ b ∷ [] → numberIn a ≡ Word.Number d → capacityIn b ≡ Word.Shapeless → Shapeless xs
-  remove-only : {a : List ℕ} → words xs ≡ removeBytes ∷ a ∷ [] → numberIn a ≡ Word.Shapeless → Shapeless xs
-  resize-first : {a b : List ℕ} → words xs ≡ resizeBytes ∷ a ∷ b ∷ [] → numberIn a ≡ Word.Shapeless → Shapeless xs
-  resize-second : {a b : List ℕ} {d : ℕ} → words xs ≡ resizeBytes ∷ a ∷ b ∷ [] → numberIn a ≡ Word.Number d → capacityIn b ≡ Word.Shapeless
-      → Shapeless xs
-
-module _ (xs : List ℕ) where
-  pub shaped : {l : LineAnswer} → Shapes xs l → lineIn xs ≡ l
-  unfolding lineIn
-  shaped (range-line {R = R} {M = M} w a b i j) = rw (w, a, b, two-inside 4294967296 R 4096 M i j)
-  shaped (add-line {d = d} {c = c} w a b i j) = rw (w, a, b, two-inside 65535 d 1000000 c i j)
-  shaped (remove-line {d = d} w a i) = rw (w, a, inside-false 65535 d i)
-  shaped (resize-line {d = d} {c = c} w a b i j) = rw (w, a, b, two-inside 65535 d 1000000 c i j)
-
-  pub far-two : Far xs → lineIn xs ≡ Refused 2
-  unfolding lineIn
-  far-two (range-far {R = R} {M = M} w a b h) = rw (w, a, b, two-outside 4294967296 R 4096 M h)
-  far-two (add-far {d = d} {c = c} w a b h) = rw (w, a, b, two-outside 65535 d 1000000 c h)
-  far-two (remove-far {d = d} w a h) = rw (w, a, inside-true 65535 d h)
-  far-two (resize-far {d = d} {c = c} w a b h) = rw (w, a, b, two-outside 65535 d 1000000 c h)
-
-  pub shapeless-one : Shapeless xs → lineIn xs ≡ Refused 1
-  unfolding lineIn
-  shapeless-one (no-words w) = rw w
-  shapeless-one (one-word w) = rw w
-  shapeless-one (more-words w) = rw w
-  shapeless-one (two-words w e) = rw (w, e)
-  shapeless-one (three-words w e f g) = rw (w, e, f, g)
-  shapeless-one (range-first w a) = rw (w, a)
-  shapeless-one (range-second w a b) = rw (w, a, b)
-  shapeless-one (add-first w a) = rw (w, a)
-  shapeless-one (add-second w a b) = rw (w, a, b)
-  shapeless-one (remove-only w a) = rw (w, a)
-  shapeless-one (resize-first w a) = rw (w, a)
-  shapeless-one (resize-second w a b) = rw (w, a, b)
 
 abbrev pub Reads : LineAnswer → ℕ → List ℕ → Type 0
 Reads r n vs = (lineReply r .number ≡ n) × (lineReply r .values ≡ vs)
@@ -227,7 +140,8 @@ module _ (h : History) (xs : List ℕ) (r : LineResult) (k : Applied h xs r) whe
         → (r .refusal ≡ 0) × (r .moved ≡ 0) × (r .count ≡ 0) × (r .history .begun ≡ true) × Bare R M (r .history .pool)
     unfolding poolOf
     apply-range b R M e =
-        let a = same-line v (record { refusal = 0; moved = 0; count = 0; history = record { begun = true; pool = poolOf (fresh R M) } }) (λ f. rw (e, b)) in
+        let g : LineResult = record { refusal = 0; moved = 0; count = 0; history = record { begun = true; pool = poolOf (fresh R M) } } in
+        let a = same-line v g (λ f. rw (e, b)) in
         (ap (λ u. u .refusal) a, ap (λ u. u .moved) a, ap (λ u. u .count) a, ap (λ u. u .history .begun) a, ap (λ u. u .history .pool) a)
 
   module _ (b : h .begun ≡ true) (c : Change) (a : Asks (lineIn xs) c) where
@@ -241,11 +155,17 @@ module _ (h : History) (xs : List ℕ) (r : LineResult) (k : Applied h xs r) whe
 
       pub apply-stops : (n : ℕ) → Stops (stateOf (h .pool)) places c n → Unchanged n h r
       apply-stops n s =
-          let e = done ∙ ap settledLine (stops (stateOf (h .pool)) places s) in
-          (ap (λ u. u .refusal) e, ap (λ u. u .moved) e, ap (λ u. u .count) e, ap (λ u. u .history .begun) e ∙ sym b, ap (λ u. u .history .pool) e ∙ v .same)
+          let e = done ∙ ap settledLine (stops (stateOf (h .pool)) places s) in (
+            ap (λ u. u .refusal) e,
+            ap (λ u. u .moved) e,
+            ap (λ u. u .count) e,
+            ap (λ u. u .history .begun) e ∙ sym b,
+            ap (λ u. u .history .pool) e ∙ v .same,
+          )
 
       pub apply-passes : (es : List Device) (table : List (Run ℕ)) (ms : List Move) → Passes (stateOf (h .pool)) places c es table ms
-          → (r .refusal ≡ 0) × (r .moved ≡ points ms) × (r .count ≡ length ms) × (r .history .begun ≡ true) × (r .history .pool ≡ withTable (h .pool) es table)
+          → (r .refusal ≡ 0) × (r .moved ≡ points ms) × (r .count ≡ length ms) × (r .history .begun ≡ true)
+          × (r .history .pool ≡ withTable (h .pool) es table)
       unfolding stateOf
       apply-passes es table ms s =
           let e = done ∙ ap settledLine (passes (stateOf (h .pool)) places s) in

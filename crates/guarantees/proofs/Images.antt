@@ -3,7 +3,7 @@
 -- read: read-short (14, under 19 bytes), read-unmarked (14, another mark), read-versioned (15), read-faulty (16), read-image
 -- write: write-invalid (2), write-short (17), write-room
 use mathlib.Core.Path.{_≡_, sym, ap, _∙_}
-use mathlib.Core.Bool.{true, false, false≢true, true≢false, _&&_}
+use mathlib.Core.Bool.{true, false, false≢true, true≢false}
 use mathlib.Core.List.{List, _++_}
 use Prim.Native.Nat.{ℕ, _≤_, _<_}
 use lib.ListN.{length, drop}
@@ -11,7 +11,7 @@ use borrow.Author.Tests.{lt-ltb, le-ltb, le-leb, lt-leb, eq-eqb, ne-eqb}
 use Rattle.placement.specs.Pools.{stateOf, poolOf, ValidPool}
 use Rattle.placement.specs.declared.Pool.{Pool}
 use Rattle.placement.specs.declared.PoolAnswer.{PoolAnswer}
-use Rattle.images.specs.Format.{imageOf, numberAt, versionIn, stateIn, marked, Sound, Image}
+use Rattle.images.specs.Format.{imageOf, numberAt, versionIn, stateIn, marked, Sound}
 use Rattle.images.specs.Promises.{refusal, ReadAs, unmarked, versioned, faulty, accepted, writeReply, WrittenAs}
 use Rattle.images.specs.declared.WriteAnswer.{WriteAnswer}
 use Rattle.images.specs.declared.WriteAnswer.the-variants.{Written, Refused}

@@ -1,6 +1,7 @@
 pub mod Conditions
 pub mod ChangeRules
 pub mod CopyRules
+pub mod LineRules
 pub mod Digests
 pub mod Pools
 pub mod Changes

@@ -1,18 +1,19 @@
 -- The examples of document 01, 'Marked for proof', on what the calls answer: K1 to K4 of `history::capacity`, K5 of `placement::share`, K12 of
 -- `lookups::point`. K6 to K11 are those of the rules, whose outcomes the changes answer (Changes.antt).
-use mathlib.Core.Path.{_≡_, sym, ap, _∙_}
+-- Document 01's example of a history, of `history::transcript`: example-printed, empty-printed, unfinished-printed.
+use mathlib.Core.Path.{_≡_, ap, _∙_}
 use mathlib.Core.List.{List, [], _∷_, _++_}
 use Prim.Native.Nat.{ℕ, _≤_}
 use native.Mathlib.Omega.{arith}
-use lib.ListN.{getD}
+use lib.ListN.{length, getD, drop}
 use borrow.Author.Tests.{le-ltb}
 use Rattle.sha1.specs.Fips180.{bytes, digest}
 use Rattle.slicing.specs.Changes.{State, fresh, Change, add, remove, resize, Outcome, change}
 use Rattle.slicing.specs.Demand3.{written}
 use Rattle.slicing.specs.Devices.{Device, device}
-use Rattle.slicing.specs.Runs.{_of_, owned}
+use Rattle.slicing.specs.Runs.{_of_}
 use Rattle.slicing.specs.ShareRule.{shares}
-use Rattle.slicing.specs.SixSteps.{Move, move}
+use Rattle.slicing.specs.SixSteps.{move}
 use Rattle.slicing.proofs.Cases.{places}
 use Rattle.placement.specs.Pools.{stateOf, ValidPool}
 use Rattle.placement.specs.Promises.{Shared}
@@ -26,6 +27,10 @@ use Rattle.lookups.specs.declared.PointAnswer.the-variants.{Point}
 use Rattle.history.specs.Lines.{CapacityRead}
 use Rattle.history.specs.declared.numbers.CapacityAnswer.{CapacityAnswer}
 use Rattle.history.specs.declared.numbers.CapacityAnswer.the-variants.{Thousandths, Refused}
+use Rattle.history.specs.Promises.{Transcribed}
+use Rattle.history.specs.declared.transcripts.TranscriptAnswer.{TranscriptAnswer}
+use Rattle.history.specs.declared.transcripts.TranscriptAnswer.the-variants.{Printed}
+use Rattle.history.proofs.Examples as Examples
 use Rattle.marked.proofs.Marked.{marked}
 use Rattle.guarantees.proofs.Lookups.{point-inside}
 
@@ -111,8 +116,69 @@ pub K12 : (block t : ℕ) (r : PointAnswer) → t ≤ 255 → Located block t 10
     → (hashed block t ≡ 2147483648 → r ≡ Point 50) × (hashed block t ≡ 4294967295 → r ≡ Point 99)
 unfolding pointOf
 K12 block t r l k =
-    let a = point-inside block t 100 r k l (omega arith, omega arith) .0 in
-    (
+    let a = point-inside block t 100 r k l (omega arith, omega arith) .0 in (
       (λ h. a ∙ ap Point (ap (λ x. scaled x 100) h ∙ marked .K12 .0)),
       (λ h. a ∙ ap Point (ap (λ x. scaled x 100) h ∙ marked .K12 .1)),
     )
+
+-- ---- the example of document 01, 'History text'
+
+-- range 100 16, add 1 1.000, add 2 1, add 3 1.0, add 3 3,2, remove 2, resize 3 3
+abbrev pub exampleText : List ℕ
+exampleText =
+    0x72 ∷ 0x61 ∷ 0x6e ∷ 0x67 ∷ 0x65 ∷ 0x20 ∷ 0x31 ∷ 0x30 ∷ 0x30 ∷ 0x20 ∷ 0x31 ∷ 0x36 ∷ 0x0a ∷
+    0x61 ∷ 0x64 ∷ 0x64 ∷ 0x20 ∷ 0x31 ∷ 0x20 ∷ 0x31 ∷ 0x2e ∷ 0x30 ∷ 0x30 ∷ 0x30 ∷ 0x0a ∷
+    0x61 ∷ 0x64 ∷ 0x64 ∷ 0x20 ∷ 0x32 ∷ 0x20 ∷ 0x31 ∷ 0x0a ∷
+    0x61 ∷ 0x64 ∷ 0x64 ∷ 0x20 ∷ 0x33 ∷ 0x20 ∷ 0x31 ∷ 0x2e ∷ 0x30 ∷ 0x0a ∷
+    0x61 ∷ 0x64 ∷ 0x64 ∷ 0x20 ∷ 0x33 ∷ 0x20 ∷ 0x33 ∷ 0x2c ∷ 0x32 ∷ 0x0a ∷
+    0x72 ∷ 0x65 ∷ 0x6d ∷ 0x6f ∷ 0x76 ∷ 0x65 ∷ 0x20 ∷ 0x32 ∷ 0x0a ∷
+    0x72 ∷ 0x65 ∷ 0x73 ∷ 0x69 ∷ 0x7a ∷ 0x65 ∷ 0x20 ∷ 0x33 ∷ 0x20 ∷ 0x33 ∷ 0x0a ∷ []
+
+-- 1 0 0 0, 2 0 0 0, 3 0 50 1, 4 0 33 2, 5 1 0 0, 6 0 33 2, 7 0 25 1, table, 0 9 1, 9 58 3, 67 16 1, 83 17 3
+abbrev pub examplePrinted : List ℕ
+examplePrinted =
+    0x31 ∷ 0x20 ∷ 0x30 ∷ 0x20 ∷ 0x30 ∷ 0x20 ∷ 0x30 ∷ 0x0a ∷
+    0x32 ∷ 0x20 ∷ 0x30 ∷ 0x20 ∷ 0x30 ∷ 0x20 ∷ 0x30 ∷ 0x0a ∷
+    0x33 ∷ 0x20 ∷ 0x30 ∷ 0x20 ∷ 0x35 ∷ 0x30 ∷ 0x20 ∷ 0x31 ∷ 0x0a ∷
+    0x34 ∷ 0x20 ∷ 0x30 ∷ 0x20 ∷ 0x33 ∷ 0x33 ∷ 0x20 ∷ 0x32 ∷ 0x0a ∷
+    0x35 ∷ 0x20 ∷ 0x31 ∷ 0x20 ∷ 0x30 ∷ 0x20 ∷ 0x30 ∷ 0x0a ∷
+    0x36 ∷ 0x20 ∷ 0x30 ∷ 0x20 ∷ 0x33 ∷ 0x33 ∷ 0x20 ∷ 0x32 ∷ 0x0a ∷
+    0x37 ∷ 0x20 ∷ 0x30 ∷ 0x20 ∷ 0x32 ∷ 0x35 ∷ 0x20 ∷ 0x31 ∷ 0x0a ∷
+    0x74 ∷ 0x61 ∷ 0x62 ∷ 0x6c ∷ 0x65 ∷ 0x0a ∷
+    0x30 ∷ 0x20 ∷ 0x39 ∷ 0x20 ∷ 0x31 ∷ 0x0a ∷
+    0x39 ∷ 0x20 ∷ 0x35 ∷ 0x38 ∷ 0x20 ∷ 0x33 ∷ 0x0a ∷
+    0x36 ∷ 0x37 ∷ 0x20 ∷ 0x31 ∷ 0x36 ∷ 0x20 ∷ 0x31 ∷ 0x0a ∷
+    0x38 ∷ 0x33 ∷ 0x20 ∷ 0x31 ∷ 0x37 ∷ 0x20 ∷ 0x33 ∷ 0x0a ∷ []
+
+-- 'Empty input prints `table` alone.'
+abbrev pub tablePrinted : List ℕ
+tablePrinted = 0x74 ∷ 0x61 ∷ 0x62 ∷ 0x6c ∷ 0x65 ∷ 0x0a ∷ []
+
+-- 'A last line with no line end is a line and is refused with 1': range 5 1, and add 1 1 with no line end
+abbrev pub unfinishedText : List ℕ
+unfinishedText =
+    0x72 ∷ 0x61 ∷ 0x6e ∷ 0x67 ∷ 0x65 ∷ 0x20 ∷ 0x35 ∷ 0x20 ∷ 0x31 ∷ 0x0a ∷
+    0x61 ∷ 0x64 ∷ 0x64 ∷ 0x20 ∷ 0x31 ∷ 0x20 ∷ 0x31 ∷ []
+
+-- 1 0 0 0, 2 1 0 0, table
+abbrev pub unfinishedPrinted : List ℕ
+unfinishedPrinted =
+    0x31 ∷ 0x20 ∷ 0x30 ∷ 0x20 ∷ 0x30 ∷ 0x20 ∷ 0x30 ∷ 0x0a ∷
+    0x32 ∷ 0x20 ∷ 0x31 ∷ 0x20 ∷ 0x30 ∷ 0x20 ∷ 0x30 ∷ 0x0a ∷
+    0x74 ∷ 0x61 ∷ 0x62 ∷ 0x6c ∷ 0x65 ∷ 0x0a ∷ []
+
+module _ (before : List ℕ) (r : TranscriptAnswer) (after : List ℕ) (l : 3145728 ≤ length before) where
+  pub example-printed : Transcribed exampleText before r after → (r ≡ Printed 95) × (after ≡ examplePrinted ++ drop 95 before)
+  example-printed k =
+      let e = le-ltb (length before) 3145728 l in
+      (k .answer ∙ rw (e, Examples.printed), k .buffer ∙ rw (e, Examples.printed))
+
+  pub empty-printed : Transcribed [] before r after → (r ≡ Printed 6) × (after ≡ tablePrinted ++ drop 6 before)
+  empty-printed k =
+      let e = le-ltb (length before) 3145728 l in
+      (k .answer ∙ rw (e, Examples.none), k .buffer ∙ rw (e, Examples.none))
+
+  pub unfinished-printed : Transcribed unfinishedText before r after → (r ≡ Printed 22) × (after ≡ unfinishedPrinted ++ drop 22 before)
+  unfinished-printed k =
+      let e = le-ltb (length before) 3145728 l in
+      (k .answer ∙ rw (e, Examples.unfinished), k .buffer ∙ rw (e, Examples.unfinished))

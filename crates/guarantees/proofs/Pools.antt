@@ -8,7 +8,6 @@ use mathlib.Core.Path.{_≡_, _∙_, subst}
 use mathlib.Core.Bool.{Bool, true, false}
 use Prim.Native.Nat.{ℕ}
 use lib.ListN.{replicate}
-use Rattle.slicing.specs.Changes.{fresh}
 use Rattle.slicing.specs.ShareRule.{shareOf}
 use Rattle.slicing_core.specs.Stages.{Decides}
 use Rattle.placement.specs.Pools.{stateOf, poolOf, ValidPool}

@@ -2,6 +2,7 @@
 --
 -- SHA-1: sixteen-words (the schedule of sixteen words gives what that of eighty does), whole-blocks
 -- shares: share-near (strictly within one of R × c / C)
+-- order of the checks: two-first, five-before-seven, four-before-six, eight-before-nine
 -- copies: copies-distinct, copies-first, copies-prefix, copies-owner; counters-fresh
 -- images: read-image, read-written, read-written-front, image-accepted, written-read, written-read-front, images-differ
 -- texts: line-for-line, line-count, text-parts, text-printed; texts-joined, texts-printed, texts-both; refused-stays, refused-dropped,
@@ -15,9 +16,12 @@ use Rattle.sha1.specs.declared.Hash.{Hash}
 use Rattle.sha1.specs.Sixteen.{run}
 use Rattle.sha1.proofs.Agree as Sha1
 use Rattle.sha1.proofs.Padding as Padding
+use Rattle.slicing.specs.Changes.{fresh, Change, add, remove, resize, change}
 use Rattle.slicing.specs.Devices.{Device, capacities}
 use Rattle.slicing.specs.LargestRemainder.{share}
 use Rattle.slicing.specs.Runs.{count, intervals}
+use Rattle.slicing.proofs.Cases as Cases
+use Rattle.slicing.proofs.Cases.{after, next, full}
 use Rattle.slicing.proofs.LargestRemainder as Shares
 use Rattle.placement.specs.Pools.{stateOf, poolOf, ValidPool}
 use Rattle.placement.specs.declared.Pool.{Pool}
@@ -58,6 +62,28 @@ whole-blocks = Padding.whole-blocks
 pub share-near : (R : ℕ) (ds : List Device) (e : Device) → 1 ≤ capacities ds
     → (R * e .capacity < capacities ds * share R ds e + capacities ds) × (capacities ds * share R ds e < R * e .capacity + capacities ds)
 share-near R ds e h = (Shares.share-above R ds e h, Shares.share-below R ds e h)
+
+-- ---- 'Checks run down the table; the first that applies counts'
+
+-- three devices of one capacity
+abbrev pub three : List Change
+three = add 1 1000 ∷ add 2 1000 ∷ add 3 1000 ∷ []
+
+pub two-first : (next (fresh 100 16) three (add 1 0) .number ≡ 2) × (next (fresh 100 16) three (remove 65536) .number ≡ 2)
+    × (next (fresh 100 16) [] (resize 7 1000001) .number ≡ 2)
+two-first = Cases.two-first
+
+pub five-before-seven : (next (fresh 100 16) (add 1 1000 ∷ []) (remove 2) .number ≡ 5) × (next (fresh 100 16) (add 1 1000 ∷ []) (remove 1) .number ≡ 7)
+five-before-seven = Cases.five-before-seven
+
+-- 256 devices
+pub four-before-six : (change full [] (add 256 1) .number ≡ 4) × (change full [] (add 257 1) .number ≡ 6)
+four-before-six = Cases.four-before-six
+
+-- a pool with room for one interval and a list without places
+pub eight-before-nine : (change (after (fresh 100 1) (add 1 1000 ∷ [])) [] (add 2 1000) .number ≡ 8)
+    × (change (after (fresh 100 2) (add 1 1000 ∷ [])) [] (add 2 1000) .number ≡ 9)
+eight-before-nine = Cases.eight-before-nine
 
 -- ---- copies: o t owns the point of probe t
 
