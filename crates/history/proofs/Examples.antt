@@ -15,7 +15,7 @@ use Rattle.history.specs.Lines.{lineIn}
 use Rattle.history.specs.Replay.{decimal, replayed, transcript}
 use Rattle.history.specs.Text.{numberIn, capacityIn}
 
-abbrev example : List ℕ
+abbrev pub example : List ℕ
 example =
     114 ∷ 97 ∷ 110 ∷ 103 ∷ 101 ∷ 32 ∷ 49 ∷ 48 ∷ 48 ∷ 32 ∷ 49 ∷ 54 ∷ 10 ∷
     97 ∷ 100 ∷ 100 ∷ 32 ∷ 49 ∷ 32 ∷ 49 ∷ 46 ∷ 48 ∷ 48 ∷ 48 ∷ 10 ∷
@@ -25,7 +25,7 @@ example =
     114 ∷ 101 ∷ 109 ∷ 111 ∷ 118 ∷ 101 ∷ 32 ∷ 50 ∷ 10 ∷
     114 ∷ 101 ∷ 115 ∷ 105 ∷ 122 ∷ 101 ∷ 32 ∷ 51 ∷ 32 ∷ 51 ∷ 10 ∷ []
 
-printed : transcript example
+pub printed : transcript example
     ≡ 49 ∷ 32 ∷ 48 ∷ 32 ∷ 48 ∷ 32 ∷ 48 ∷ 10 ∷
     50 ∷ 32 ∷ 48 ∷ 32 ∷ 48 ∷ 32 ∷ 48 ∷ 10 ∷
     51 ∷ 32 ∷ 48 ∷ 32 ∷ 53 ∷ 48 ∷ 32 ∷ 49 ∷ 10 ∷
@@ -42,13 +42,13 @@ unfolding transcript replayed lineIn numberIn capacityIn decimal change turns sh
 printed = refl
 
 -- 'add 1 1' without a line end
-unfinished : transcript (114 ∷ 97 ∷ 110 ∷ 103 ∷ 101 ∷ 32 ∷ 53 ∷ 32 ∷ 49 ∷ 10 ∷ 97 ∷ 100 ∷ 100 ∷ 32 ∷ 49 ∷ 32 ∷ 49 ∷ [])
+pub unfinished : transcript (114 ∷ 97 ∷ 110 ∷ 103 ∷ 101 ∷ 32 ∷ 53 ∷ 32 ∷ 49 ∷ 10 ∷ 97 ∷ 100 ∷ 100 ∷ 32 ∷ 49 ∷ 32 ∷ 49 ∷ [])
     ≡ 49 ∷ 32 ∷ 48 ∷ 32 ∷ 48 ∷ 32 ∷ 48 ∷ 10 ∷
     50 ∷ 32 ∷ 49 ∷ 32 ∷ 48 ∷ 32 ∷ 48 ∷ 10 ∷
     116 ∷ 97 ∷ 98 ∷ 108 ∷ 101 ∷ 10 ∷ []
 unfolding transcript replayed lineIn numberIn capacityIn decimal change
 unfinished = refl
 
-none : transcript [] ≡ 116 ∷ 97 ∷ 98 ∷ 108 ∷ 101 ∷ 10 ∷ []
+pub none : transcript [] ≡ 116 ∷ 97 ∷ 98 ∷ 108 ∷ 101 ∷ 10 ∷ []
 unfolding transcript replayed
 none = refl

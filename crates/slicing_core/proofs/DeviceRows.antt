@@ -71,7 +71,7 @@ module _ (d c : List ℕ) where
 -- ---- whether an id is present: at its place among rising ids, or nowhere
 
 -- the id v is in none of the m rows from i on
-abbrev Without : List ℕ → ℕ → ℕ → ℕ → Type 0
+abbrev pub Without : List ℕ → ℕ → ℕ → ℕ → Type 0
 Without d v i m = (k : ℕ) → i ≤ k → k < i + m → v ≡ at d k → ⊥
 
 present-at : (d c : List ℕ) (v i m k : ℕ) → i ≤ k → k < i + m → v ≡ at d k → present v (deviceRows d c i m) ≡ true
@@ -84,7 +84,7 @@ present-at d c v i (suc m) k l b e = go (eq-or-lt-of-le l) (λ s. present-at d c
     go (inl j) ih false x = absurd (eqb-false v (at d i) x (rw j e))
     go (inr s) ih false x = ih s
 
-present-without : (d c : List ℕ) (v i m : ℕ) → Without d v i m → present v (deviceRows d c i m) ≡ false
+pub present-without : (d c : List ℕ) (v i m : ℕ) → Without d v i m → present v (deviceRows d c i m) ≡ false
 present-without d c v i zero h = refl
 present-without d c v i (suc m) h =
     rw (ne-eqb v (at d i) (h i (omega arith) (omega arith)), present-without d c v (suc i) m (λ k l b. h k (omega arith) (omega arith)))

@@ -1,0 +1,14 @@
+pub mod Conditions
+pub mod ChangeRules
+pub mod CopyRules
+pub mod LineRules
+pub mod Digests
+pub mod Pools
+pub mod Changes
+pub mod FlatChanges
+pub mod Lookups
+pub mod Images
+pub mod Histories
+pub mod Exports
+pub mod Rules
+pub mod MarkedExamples

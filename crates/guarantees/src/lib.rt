@@ -1,0 +1,1 @@
+// Each offered call's outcomes in plain terms, and no code: see proofs/.
