@@ -5,11 +5,33 @@ usage: tools/history_vectors.py VECTORS
 
 The head of crates/history_vectors/src/main.rt describes the files. The cases are every history of the folder with what `slices` must
 print of it, byte for byte, and texts around the border of 65,536 bytes whose transcripts document 01 gives: `too long` alone for one
-byte more. A history that isn't UTF-8 is refused, since all files of the repository are.
+byte more. A history that isn't UTF-8 is refused, since all files of the repository are. What the program prints of single lines
+(src/single_lines.rt) stands first.
 """
 import shutil
 import sys
 from pathlib import Path
+
+
+# What each line of src/single_lines.rt gives: refusal number or 0, moved points, number of moves.
+SINGLE_LINES = """\
+add 1 1.000: 3 0 0
+range 100 16: 0 0 0
+range 100 16: 3 0 0
+remove 1: 5 0 0
+add 1 1.000: 0 0 0
+remove 1: 7 0 0
+add 2 1: 0 50 1
+add 3 1.0: 0 33 2
+add 3 3,2: 1 0 0
+add 3 1: 4 0 0
+add 65536 1: 2 0 0
+remove 2: 0 33 2
+resize 2 3: 5 0 0
+resize 3 0.000: 2 0 0
+resize 3 3: 0 25 1
+: 1 0 0
+"""
 
 
 def borders():
@@ -33,7 +55,7 @@ def main():
         (data / f"{name}.in").write_bytes(text)
         (data / f"{name}.out").write_bytes(expected)
     (crate / "args").write_text("".join(f"{name}\n" for name, _, _ in cases))
-    (crate / "stdout").write_text("".join(f"{name} same\n" for name, _, _ in cases))
+    (crate / "stdout").write_text(SINGLE_LINES + "".join(f"{name} same\n" for name, _, _ in cases))
 
 
 main()

@@ -1,7 +1,7 @@
 // Runs the histories that its arguments name, and compares each transcript with the one that is expected:
 // for the argument NAME the file NAME.in has the history and NAME.out what `slices` prints of it. Prints
 // each name, and `same`, `different`, or `missing` where one of the two files cannot be read. The files
-// are made from test vectors by tools/history_vectors.py.
+// are made from test vectors by tools/history_vectors.py. Single lines come first.
 use history::ROOM;
 use history::TranscriptAnswer;
 use libc::STDOUT_FILENO;
@@ -10,6 +10,8 @@ ghost use Prim.Native.Nat.{_≤_};
 ghost use lib.ListN.{length};
 ghost use Rattle.io.specs.Counts.{Counts};
 ghost use Rattle.streams.specs.Inputs.{Within};
+
+mod single_lines;
 
 // One byte more than the longest transcript that is compared. A file that has so many is different.
 const MOST_EXPECTED: usize = 1048577;
@@ -132,6 +134,7 @@ fn run(i: usize, text: &mut [u8], out: &mut [u8], expected: &mut [u8]) {
 }
 
 fn main() {
+    single_lines::run();
     let mut text = history_streams::text_room();
     let mut expected = [0u8; MOST_EXPECTED];
     let mut out = [0u8; ROOM];
