@@ -30,7 +30,7 @@ module _ (Made : PoolAnswer → Type 0) (R M : ℕ) (b : Ledger) (xs : List ℕ)
       back (suc k) e z = sym (ap (λ (a : PoolAnswer). a .refusal) (o .continued .refused (λ h. omega (arith, e, h)))) ∙ z
 
   module _ (z : o .first .refusal ≡ 0) where
-    ran : Ran (o .first .pool) xs n (r .pool)
+    abbrev pub ran : Ran (o .first .pool) xs n (r .pool)
     ran = o .continued .ran z
 
     pub run-asked : callsOf (ran .steps) ≡ callsIn n xs

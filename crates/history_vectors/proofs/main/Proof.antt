@@ -24,6 +24,7 @@ main-spec =
     μ-loop
     (λ c κs. search needs)
     (λ c κs. search needs)
+    (λ c κs. search needs)
     loop-holds
     (λ c. search needs)
     (λ c. search needs)
