@@ -1,5 +1,5 @@
--- The outcomes of `placement::add`, `remove`, `resize` and `changed`, whose list has four numbers a place. ChangeRules.antt has the lines of `Stops` and
--- `Passes`: one for each refusal and each result.
+-- The outcomes of the internal calls `placement::add`, `remove`, `resize` and `changed`, whose list has four numbers a place: the offered changes and
+-- histories stand on them. ChangeRules.antt has the lines of `Stops` and `Passes`: one for each refusal and each result.
 --
 -- flat-invalid (2, a pool that is not valid), flat-stops (every other refusal), flat-passes (every result). There is no other outcome:
 -- ChangeRules.antt `change-known`
