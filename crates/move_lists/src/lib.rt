@@ -6,6 +6,7 @@ use placement::Pool;
 ghost use mathlib.Core.Path.{_≡_};
 ghost use mathlib.Core.List.{_++_, map};
 ghost use Prim.Native.Nat.{_*_, _≤_, min};
+ghost use lib.Dec.{ltb};
 ghost use lib.ListN.{length, take, drop};
 ghost use Rattle.slicing.specs.Changes as Changes;
 ghost use Rattle.slicing_core.specs.Stages.{scratch};
@@ -115,6 +116,25 @@ fn answer_of(draft: Draft) -> ChangeAnswer
     draft.answer
 }
 
+// Whether the place i is to be written, where there are so many moves.
+fn is_written(i: usize, count: usize) -> bool
+    ensures { λ r. ⌜ r ≡ ltb i count ⌝ }
+{
+    i < count
+}
+
+// What a place gets for a move of the draft: the same, field by field.
+fn copy_of(row: Move) -> Move
+    ensures { λ r. ⌜ r ≡ row ⌝ }
+{
+    Move {
+        start: row.start,
+        length: row.length,
+        from: row.from,
+        to: row.to,
+    }
+}
+
 // Writes the moves of a draft into the first places of the list, and answers it.
 fn write(list: &mut [Move], draft: Draft) -> ChangeAnswer
     requires { ⌜ (draft .answer .count ≤ length (now list)) × (draft .answer .count ≤ scratch) ⌝ }
@@ -123,8 +143,8 @@ fn write(list: &mut [Move], draft: Draft) -> ChangeAnswer
     let rows = moves_of(draft);
     let count = draft.answer.count;
     let mut i = 0;
-    while i < count {
-        list[i] = rows[i];
+    while is_written(i, count) {
+        list[i] = copy_of(rows[i]);
         i += 1;
     }
     answer_of(draft)
