@@ -22,14 +22,14 @@ use Rattle.slicing.specs.SixSteps.{move}
 use Rattle.slicing.specs.Validity.{Valid}
 use Rattle.slicing.proofs.Changes.{valid-change}
 use Rattle.move_lists.specs.Promises.{moveOf, rowOf, Answered, Changed}
-use Rattle.history.specs.declared.lines.LineAnswer.{LineAnswer}
-use Rattle.history.specs.declared.lines.LineAnswer.the-variants.{Range, Add, Remove, Resize, Refused}
+use Rattle.history_lines.specs.declared.lines.LineAnswer.{LineAnswer}
+use Rattle.history_lines.specs.declared.lines.LineAnswer.the-variants.{Range, Add, Remove, Resize, Refused}
 use Rattle.history.specs.Histories.{lastOf, linesOf, readAll, printedLines, unfinished}
 use Rattle.history.specs.Histories as Histories
-use Rattle.history.specs.Lines.{farRange, lineIn}
+use Rattle.history_lines.specs.Lines.{farRange, lineIn}
 use Rattle.history.specs.Replay.{Reading, start, refusal, places, applied, fields, printedLine, printedTable, replayed}
-use Rattle.history.specs.Text.{lineEnd, split}
-use Rattle.history.proofs.LineLimits.{line-fits, refused-fits, range-limits}
+use Rattle.history_lines.specs.Text.{lineEnd, split}
+use Rattle.history_lines.proofs.LineLimits.{line-fits, refused-fits, range-limits}
 use Rattle.history.proofs.ReplayLaws.{fresh-valid, readAll-join, poolAfter-valid, printedLines-join, replayed-text}
 use Rattle.demand3.specs.CallLists.{Step, Call, callsOf, Kept, poolAfter}
 use Rattle.demand3.specs.Openings.{Opening}

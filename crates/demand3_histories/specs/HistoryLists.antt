@@ -22,13 +22,13 @@ use Rattle.placement.specs.Pools.{stateOf, poolOf}
 use Rattle.slicing.specs.Changes.{fresh, Change, add, remove, resize}
 use Rattle.slicing.specs.Ledger.{blank}
 use Rattle.move_lists.specs.declared.Move.{Move}
-use Rattle.history.specs.declared.lines.LineAnswer.{LineAnswer}
-use Rattle.history.specs.declared.lines.LineAnswer.the-variants.{Range, Add, Remove, Resize, Refused}
+use Rattle.history_lines.specs.declared.lines.LineAnswer.{LineAnswer}
+use Rattle.history_lines.specs.declared.lines.LineAnswer.the-variants.{Range, Add, Remove, Resize, Refused}
 use Rattle.history.specs.Histories.{lastOf, linesOf, unfinished}
 use Rattle.history.specs.Histories as Histories
-use Rattle.history.specs.Lines.{farRange, lineIn}
+use Rattle.history_lines.specs.Lines.{farRange, lineIn}
 use Rattle.history.specs.Replay.{fields, printedTable, replayed}
-use Rattle.history.specs.Text.{lineEnd, split}
+use Rattle.history_lines.specs.Text.{lineEnd, split}
 use Rattle.demand3.specs.CallLists.{Step, Call, callsOf, Kept, poolAfter}
 use Rattle.demand3.specs.Demand3.{Demand3}
 

@@ -24,9 +24,9 @@ use Rattle.lookup_core.specs.Probes.{pointOf, scaled}
 use Rattle.lookups.specs.Promises.{Located}
 use Rattle.lookups.specs.declared.PointAnswer.{PointAnswer}
 use Rattle.lookups.specs.declared.PointAnswer.the-variants.{Point}
-use Rattle.history.specs.Lines.{CapacityRead}
-use Rattle.history.specs.declared.numbers.CapacityAnswer.{CapacityAnswer}
-use Rattle.history.specs.declared.numbers.CapacityAnswer.the-variants.{Thousandths, Refused}
+use Rattle.history_lines.specs.Lines.{CapacityRead}
+use Rattle.history_lines.specs.declared.numbers.CapacityAnswer.{CapacityAnswer}
+use Rattle.history_lines.specs.declared.numbers.CapacityAnswer.the-variants.{Thousandths, Refused}
 use Rattle.history.specs.Promises.{Transcribed}
 use Rattle.history.specs.declared.transcripts.TranscriptAnswer.{TranscriptAnswer}
 use Rattle.history.specs.declared.transcripts.TranscriptAnswer.the-variants.{Printed}

@@ -20,12 +20,12 @@ use Rattle.slicing.specs.Changes.{refused as refusal}
 use Rattle.slicing.specs.SixSteps.{move}
 use Rattle.history.specs.declared.applying.History.{History}
 use Rattle.history.specs.declared.applying.LineResult.{LineResult}
-use Rattle.history.specs.declared.lines.LineAnswer.{LineAnswer}
-use Rattle.history.specs.declared.lines.LineAnswer.the-variants.{Range, Add, Remove, Resize, Refused}
-use Rattle.history.specs.Lines.{farRange, lineIn}
+use Rattle.history_lines.specs.declared.lines.LineAnswer.{LineAnswer}
+use Rattle.history_lines.specs.declared.lines.LineAnswer.the-variants.{Range, Add, Remove, Resize, Refused}
+use Rattle.history_lines.specs.Lines.{farRange, lineIn}
 use Rattle.history.specs.Promises.{refused, settledLine, rangedLine, appliedLine, ChangedLine, Said, Applied}
 use Rattle.history.specs.Replay.{places}
-use Rattle.history.proofs.LineLimits.{Fits, lineIn-fits}
+use Rattle.history_lines.proofs.LineLimits.{Fits, lineIn-fits}
 
 movesIn-four : (n : ℕ) → movesIn (replicate (4 * n) 0) ≡ replicate n (move 0 0 0 0)
 movesIn-four zero = refl

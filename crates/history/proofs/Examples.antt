@@ -11,9 +11,9 @@ use Rattle.slicing.specs.Changes.{change}
 use Rattle.slicing.specs.LargestRemainder.{largestRemainder}
 use Rattle.slicing.specs.ShareRule.{shares}
 use Rattle.slicing.specs.SixSteps.{turns}
-use Rattle.history.specs.Lines.{lineIn}
+use Rattle.history_lines.specs.Lines.{lineIn}
 use Rattle.history.specs.Replay.{decimal, replayed, transcript}
-use Rattle.history.specs.Text.{numberIn, capacityIn}
+use Rattle.history_lines.specs.Text.{numberIn, capacityIn}
 
 abbrev pub example : List ℕ
 example =

@@ -24,7 +24,7 @@ use Rattle.history.specs.declared.transcripts.TranscriptAnswer.{Transcri
 use Rattle.history.specs.declared.transcripts.TranscriptAnswer.the-variants.{Printed, Refused}
 use Rattle.history.specs.Promises.{room, transcriptReply, Transcribed}
 use Rattle.history.specs.Replay.{printedRows, printedTable, maxText, tooLong, replayed, transcript}
-use Rattle.history.specs.Text.{lineEnd}
+use Rattle.history_lines.specs.Text.{lineEnd}
 
 -- the line `table`
 abbrev pub heading : List ℕ

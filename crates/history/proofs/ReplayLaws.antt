@@ -21,13 +21,13 @@ use Rattle.slicing.specs.Limits.{maxRange, maxLimit}
 use Rattle.slicing.specs.Validity.{Valid}
 use Rattle.slicing.proofs.Changes.{valid-change, change-refused}
 use Rattle.slicing.proofs.Claims.{valid-fresh}
-use Rattle.history.specs.declared.lines.LineAnswer.{LineAnswer}
-use Rattle.history.specs.declared.lines.LineAnswer.the-variants.{Range, Add, Remove, Resize, Refused}
+use Rattle.history_lines.specs.declared.lines.LineAnswer.{LineAnswer}
+use Rattle.history_lines.specs.declared.lines.LineAnswer.the-variants.{Range, Add, Remove, Resize, Refused}
 use Rattle.history.specs.Histories.{lastOf, linesOf, textOf, Whole, Complete, readAll, poolAfter, acceptedLines, printedLines, unfinished}
-use Rattle.history.specs.Lines.{farRange, lineIn}
+use Rattle.history_lines.specs.Lines.{farRange, lineIn}
 use Rattle.history.specs.Replay.{Reading, start, Result, places, changed, applied, printedLine, printedTable, replay, maxText, replayed, transcript}
-use Rattle.history.specs.Text.{lineEnd, split}
-use Rattle.history.proofs.LineLimits.{line-fits, range-limits}
+use Rattle.history_lines.specs.Text.{lineEnd, split}
+use Rattle.history_lines.proofs.LineLimits.{line-fits, range-limits}
 use Rattle.history.proofs.TextLines.{parts-some, parts-last, lines-join, parts-join, parts-complete, complete-join, lines-whole, lines-textOf}
 
 -- ---- a line

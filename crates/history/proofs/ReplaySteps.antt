@@ -19,12 +19,12 @@ use Rattle.slicing.proofs.Changes.{valid-change, outside-false, or-false}
 use Rattle.slicing.proofs.Claims.{valid-fresh}
 use Rattle.history.specs.declared.applying.History.{History}
 use Rattle.history.specs.declared.applying.LineResult.{LineResult}
-use Rattle.history.specs.declared.lines.LineAnswer.{LineAnswer}
-use Rattle.history.specs.declared.lines.LineAnswer.the-variants.{Range, Add, Remove, Resize, Refused}
-use Rattle.history.specs.Lines.{farRange}
+use Rattle.history_lines.specs.declared.lines.LineAnswer.{LineAnswer}
+use Rattle.history_lines.specs.declared.lines.LineAnswer.the-variants.{Range, Add, Remove, Resize, Refused}
+use Rattle.history_lines.specs.Lines.{farRange}
 use Rattle.history.specs.Promises.{refused, settledLine, rangedLine, Said}
 use Rattle.history.specs.Replay.{Reading, start, Result, places, refusal, settled, changed, applied}
-use Rattle.history.proofs.LineLimits.{Fits}
+use Rattle.history_lines.proofs.LineLimits.{Fits}
 use Rattle.history.proofs.ReplayBounds.{moved-most, count-most}
 
 abbrev pub readingOf : History → Reading

@@ -21,8 +21,8 @@ use lib.Dec.{ltb}
 use lib.ListN.{length}
 use Rattle.slicing.specs.Changes.{State}
 use Rattle.slicing.specs.Runs.{count}
-use Rattle.history.specs.Text.{lineEnd, space, split}
-use Rattle.history.specs.Lines.{lineIn}
+use Rattle.history_lines.specs.Text.{lineEnd, space, split}
+use Rattle.history_lines.specs.Lines.{lineIn}
 use Rattle.history.specs.Replay.{Reading, start, applied, decimal, fields, printedLine}
 
 -- ---- lines

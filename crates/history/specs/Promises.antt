@@ -5,32 +5,28 @@
 --   ChangedLine h k r     r answers the change line k on the history h
 --   Said h l r            r answers a line that says l on the history h
 --   Applied h xs r        r answers the line xs on the history h
---   partAt xs n           the line of the text xs from place n on: what it says, and where the next one starts
 --   transcriptReply r     document 01's number and value of the answer r of a transcript
 --   Transcribed xs ..     the answer of a transcript of the text xs, and the buffer afterwards
 --   Left xs r             r answers the call for the pool that the text xs leaves
 use mathlib.Core.Path.{_≡_}
 use mathlib.Core.Bool.{true, false, cond}
 use mathlib.Core.List.{List, _++_}
-use Prim.Native.Nat.{ℕ, _+_}
+use Prim.Native.Nat.{ℕ}
 use lib.Dec.{ltb}
-use lib.ListN.{length, take, drop}
+use lib.ListN.{length, drop}
 use Rattle.placement.specs.Pools.{stateOf, poolOf, ValidPool}
 use Rattle.placement.specs.declared.PoolAnswer.{PoolAnswer}
 use Rattle.slicing.specs.Changes.{fresh, Change, add, remove, resize, Outcome, change}
 use Rattle.slicing.specs.Replies.{Reply, replied, declined}
 use Rattle.history.specs.declared.applying.History.{History}
 use Rattle.history.specs.declared.applying.LineResult.{LineResult}
-use Rattle.history.specs.declared.lines.LineAnswer.{LineAnswer}
-use Rattle.history.specs.declared.lines.LineAnswer.the-variants.{Range, Add, Remove, Resize, Refused}
-use Rattle.history.specs.declared.lines.Part.{Part}
+use Rattle.history_lines.specs.declared.lines.LineAnswer.{LineAnswer}
+use Rattle.history_lines.specs.declared.lines.LineAnswer.the-variants.{Range, Add, Remove, Resize, Refused}
 use Rattle.history.specs.declared.transcripts.TranscriptAnswer.{TranscriptAnswer}
 use Rattle.history.specs.declared.transcripts.TranscriptAnswer.the-variants as Answer
-use Rattle.history.specs.Cuts.{cutAt}
 use Rattle.history.specs.Histories.{poolAfter}
-use Rattle.history.specs.Lines.{farRange, lineIn}
+use Rattle.history_lines.specs.Lines.{farRange, lineIn}
 use Rattle.history.specs.Replay.{places, maxText, transcript}
-use Rattle.history.specs.Text.{lineEnd}
 
 abbrev pub refused : History → ℕ → LineResult
 refused h n = record { refusal = n; moved = 0; count = 0; history = h }
@@ -68,13 +64,6 @@ Said h (Resize d c) r = ChangedLine h (resize d c) r
 pub record Applied (h : History) (xs : List ℕ) (r : LineResult) : Type 0 where
   pub valid : ValidPool (h .pool) → r ≡ appliedLine h (λ k. settledLine (change (stateOf (h .pool)) places k)) (lineIn xs)
   pub invalid : (ValidPool (h .pool) → ⊥) → r ≡ appliedLine h (λ k. refused h 2) (lineIn xs)
-
--- the line of a text from place n on. 'A last line with no line end is a line and is refused with 1.'
-abbrev pub partAt : List ℕ → ℕ → Part
-partAt xs n =
-    let rest = drop n xs in
-    let end = cutAt lineEnd rest in
-    cond (ltb end (length rest)) (record { said = lineIn (take end rest); next = n + end + 1 }) (record { said = Refused 1; next = length xs })
 
 -- the room that every transcript fits in: 44 bytes for each of 65,536 lines, 33 for each of 4,096 intervals, 6 for `table`
 abbrev pub room : ℕ

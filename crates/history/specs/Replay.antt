@@ -15,10 +15,10 @@ use lib.ListN.{length, replicate}
 use Rattle.slicing.specs.Changes.{State, fresh, Change, add, remove, resize, Outcome, change}
 use Rattle.slicing.specs.Runs.{Interval, intervals}
 use Rattle.slicing.specs.SixSteps.{Move, move}
-use Rattle.history.specs.declared.lines.LineAnswer.{LineAnswer}
-use Rattle.history.specs.declared.lines.LineAnswer.the-variants.{Range, Add, Remove, Resize, Refused}
-use Rattle.history.specs.Text.{lineEnd, space, zeroDigit, split}
-use Rattle.history.specs.Lines.{lineIn}
+use Rattle.history_lines.specs.declared.lines.LineAnswer.{LineAnswer}
+use Rattle.history_lines.specs.declared.lines.LineAnswer.the-variants.{Range, Add, Remove, Resize, Refused}
+use Rattle.history_lines.specs.Text.{lineEnd, space, zeroDigit, split}
+use Rattle.history_lines.specs.Lines.{lineIn}
 
 pub record Reading : Type 0 where
   pub begun : Bool

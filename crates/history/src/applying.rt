@@ -1,6 +1,6 @@
 // One line of a history, applied.
-use crate::lines::LineAnswer;
-use crate::lines::line;
+use history_lines::LineAnswer;
+use history_lines::line;
 use placement::Call;
 use placement::ChangeAnswer;
 use placement::Pool;
@@ -11,7 +11,7 @@ ghost use lib.ListN.{replicate};
 ghost use Rattle.placement.specs.Pools.{poolOf};
 ghost use Rattle.placement.specs.Promises.{changeOf};
 ghost use Rattle.slicing.specs.Changes as Changes;
-ghost use Rattle.history.specs.Lines.{farRange};
+ghost use Rattle.history_lines.specs.Lines.{farRange};
 ghost use Rattle.history.specs.Promises.{rangedLine, ChangedLine, Said, Applied};
 ghost use Rattle.history.specs.Promises.{refused as refusedLine};
 

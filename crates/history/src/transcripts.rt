@@ -1,8 +1,8 @@
 // What `slices` prints of a history text.
 use crate::applying::History;
 use crate::applying::applied;
-use crate::lines::LineAnswer;
-use crate::lines::part_at;
+use history_lines::LineAnswer;
+use history_lines::part_at;
 use crate::printing::put_line;
 use crate::printing::put_rows;
 use crate::printing::put_text;

@@ -2,7 +2,7 @@
 use mathlib.Core.List.{[], _∷_}
 use native.Mathlib.Omega.{arith}
 use borrow.Author.Needs.{needs}
-use Rattle.history.specs.Text.{space}
+use Rattle.history_lines.specs.Text.{space}
 use Rattle.history.proofs.PutBehind.{fields-behind, length-end, length-four}
 use Rattle.history.proofs.printing.put_line.Statement.{statement}
 use Rattle.history.proofs.printing.put_line.Tie as tie

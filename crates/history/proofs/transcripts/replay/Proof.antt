@@ -8,7 +8,7 @@ use lib.ListN.{length}
 use borrow.Author.Needs.{needs}
 use Rattle.history.proofs.AppliedLines.{said-refused}
 use Rattle.history.proofs.Replaying.{Replaying, replaying-none, replaying-room, replaying-step, replaying-table, replaying-end}
-use Rattle.history.proofs.TextParts.{part-above}
+use Rattle.history_lines.proofs.TextParts.{part-above}
 use Rattle.history.proofs.transcripts.replay.Statement.{statement}
 use Rattle.history.proofs.transcripts.replay.Tie as tie
 
