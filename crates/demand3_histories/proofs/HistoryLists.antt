@@ -27,7 +27,8 @@ use Rattle.history_lines.specs.declared.lines.LineAnswer.the-variants.{Range, A
 use Rattle.history.specs.Histories.{lastOf, linesOf, readAll, printedLines, unfinished}
 use Rattle.history.specs.Histories as Histories
 use Rattle.history_lines.specs.Lines.{farRange, lineIn}
-use Rattle.history.specs.Replay.{Reading, start, refusal, places, applied, fields, printedLine, printedTable, replayed}
+use Rattle.history_printing.specs.Printing.{fields}
+use Rattle.history.specs.Replay.{Reading, start, refusal, places, applied, printedLine, printedTable, replayed}
 use Rattle.history_lines.specs.Text.{lineEnd, split}
 use Rattle.history_lines.proofs.LineLimits.{line-fits, refused-fits, range-limits}
 use Rattle.history.proofs.ReplayLaws.{fresh-valid, readAll-join, poolAfter-valid, printedLines-join, replayed-text}

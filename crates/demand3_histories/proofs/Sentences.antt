@@ -40,7 +40,8 @@ use Rattle.history.specs.Histories.{lastOf, linesOf, lineEnds, unfinished}
 use Rattle.history.specs.Histories as Histories
 use Rattle.history_lines.specs.Lines.{lineIn}
 use Rattle.history.specs.Promises.{room, Transcribed, Left}
-use Rattle.history.specs.Replay.{fields, printedRows, printedTable, maxText, replayed, transcript}
+use Rattle.history_printing.specs.Printing.{fields, printedRows}
+use Rattle.history.specs.Replay.{printedTable, maxText, replayed, transcript}
 use Rattle.history_lines.specs.Text.{lineEnd, split}
 use Rattle.history_lines.proofs.LineLimits.{range-limits}
 use Rattle.history.proofs.PrintedLines.{lineEnds-then, lineEnds-fields}

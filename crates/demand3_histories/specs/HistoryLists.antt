@@ -27,7 +27,8 @@ use Rattle.history_lines.specs.declared.lines.LineAnswer.the-variants.{Range, A
 use Rattle.history.specs.Histories.{lastOf, linesOf, unfinished}
 use Rattle.history.specs.Histories as Histories
 use Rattle.history_lines.specs.Lines.{farRange, lineIn}
-use Rattle.history.specs.Replay.{fields, printedTable, replayed}
+use Rattle.history_printing.specs.Printing.{fields}
+use Rattle.history.specs.Replay.{printedTable, replayed}
 use Rattle.history_lines.specs.Text.{lineEnd, split}
 use Rattle.demand3.specs.CallLists.{Step, Call, callsOf, Kept, poolAfter}
 use Rattle.demand3.specs.Demand3.{Demand3}

@@ -1,6 +1,4 @@
 pub mod Examples
-pub mod PutBehind
-pub mod Decimals
 pub mod TextLines
 pub mod ReplayLaws
 pub mod PrintedLines
@@ -10,5 +8,4 @@ pub mod ReplayParts
 pub mod ReplaySteps
 pub mod Replaying
 pub mod PoolsLeft
-pub mod PrintedRows
 pub mod PrintedTables

@@ -23,7 +23,8 @@ use Rattle.slicing_core.proofs.Fronts.{front-put}
 use Rattle.history.specs.declared.transcripts.TranscriptAnswer.{TranscriptAnswer}
 use Rattle.history.specs.declared.transcripts.TranscriptAnswer.the-variants.{Printed, Refused}
 use Rattle.history.specs.Promises.{room, transcriptReply, Transcribed}
-use Rattle.history.specs.Replay.{printedRows, printedTable, maxText, tooLong, replayed, transcript}
+use Rattle.history_printing.specs.Printing.{printedRows}
+use Rattle.history.specs.Replay.{printedTable, maxText, tooLong, replayed, transcript}
 use Rattle.history_lines.specs.Text.{lineEnd}
 
 -- the line `table`

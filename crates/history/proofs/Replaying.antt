@@ -19,10 +19,11 @@ use Rattle.history.specs.declared.applying.LineResult.{LineResult}
 use Rattle.history_lines.specs.declared.lines.Part.{Part}
 use Rattle.history_lines.specs.Cuts.{partAt}
 use Rattle.history.specs.Promises.{Said}
-use Rattle.history.specs.Replay.{Reading, applied, fields, printedTable, replay, replayed}
+use Rattle.history_printing.specs.Printing.{fields}
+use Rattle.history.specs.Replay.{Reading, applied, printedTable, replay, replayed}
 use Rattle.history_lines.specs.Text.{lineEnd, split}
-use Rattle.history.proofs.Decimals.{length-fields4}
-use Rattle.history.proofs.PutBehind.{put-room}
+use Rattle.history_printing.proofs.Decimals.{length-fields4}
+use Rattle.history_printing.proofs.PutBehind.{put-room}
 use Rattle.history.proofs.ReplaySteps.{readingOf, new-valid, new-reading, Given, given-said}
 use Rattle.history_lines.proofs.TextParts.{part-fits, part-above, part-within}
 use Rattle.history.proofs.ReplayParts.{replay-part}

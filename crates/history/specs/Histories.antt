@@ -23,7 +23,8 @@ use Rattle.slicing.specs.Changes.{State}
 use Rattle.slicing.specs.Runs.{count}
 use Rattle.history_lines.specs.Text.{lineEnd, space, split}
 use Rattle.history_lines.specs.Lines.{lineIn}
-use Rattle.history.specs.Replay.{Reading, start, applied, decimal, fields, printedLine}
+use Rattle.history_printing.specs.Printing.{decimal, fields}
+use Rattle.history.specs.Replay.{Reading, start, applied, printedLine}
 
 -- ---- lines
 

@@ -3,22 +3,22 @@
 --   Reading             whether a range line was accepted, and the pool
 --   Result              what a line gives: the refusal number or 0, the moved points, the number of moves, the reading afterwards
 --   applied h l         the result of a line
---   decimal n           the decimal digits of a number
---   printed ..          what `slices` prints of a line, of an interval, of a table
+--   printedLine, printedTable    what `slices` prints of a line, of a table
 --   replay h n ps       what it prints of the parts ps of a text, the first being line n
 --   replayed, transcript xs   what it prints of a text, at most 65,536 bytes long or any
 use mathlib.Core.Bool.{Bool, true, false, cond}
 use mathlib.Core.List.{List, [], _∷_, _++_}
-use Prim.Native.Nat.{ℕ, zero, suc, _+_, _/_, _%_}
+use Prim.Native.Nat.{ℕ, suc}
 use lib.Dec.{ltb}
 use lib.ListN.{length, replicate}
 use Rattle.slicing.specs.Changes.{State, fresh, Change, add, remove, resize, Outcome, change}
-use Rattle.slicing.specs.Runs.{Interval, intervals}
+use Rattle.slicing.specs.Runs.{intervals}
 use Rattle.slicing.specs.SixSteps.{Move, move}
 use Rattle.history_lines.specs.declared.lines.LineAnswer.{LineAnswer}
 use Rattle.history_lines.specs.declared.lines.LineAnswer.the-variants.{Range, Add, Remove, Resize, Refused}
-use Rattle.history_lines.specs.Text.{lineEnd, space, zeroDigit, split}
+use Rattle.history_lines.specs.Text.{lineEnd, split}
 use Rattle.history_lines.specs.Lines.{lineIn}
+use Rattle.history_printing.specs.Printing.{fields, printedRows}
 
 pub record Reading : Type 0 where
   pub begun : Bool
@@ -59,29 +59,9 @@ applied h (Resize d c) = changed h (resize d c)
 
 -- ---- what is printed
 
--- at most k digits
-abbrev pub digits : ℕ → ℕ → List ℕ
-digits zero n = []
-digits (suc k) n = let high = digits k (n / 10) in cond (ltb n 10) ((zeroDigit + n) ∷ []) (high ++ (zeroDigit + n % 10) ∷ [])
-
--- 'fields in decimal'
-unfoldable pub decimal : ℕ → List ℕ
-decimal n = digits 20 n
-
--- 'with one space between', 'Printed lines end in 0A too'
-abbrev pub fields : List ℕ → List ℕ
-fields [] = lineEnd ∷ []
-fields (n ∷ []) = decimal n ++ lineEnd ∷ []
-fields (n ∷ m ∷ ns) = decimal n ++ space ∷ fields (m ∷ ns)
-
 -- 'Each line gives: line number, refusal number or 0, moved points, number of moves.'
 abbrev pub printedLine : ℕ → Result → List ℕ
 printedLine n r = fields (n ∷ r .number ∷ r .moved ∷ r .count ∷ [])
-
--- 'start, length and owner of each interval'
-abbrev pub printedRows : List Interval → List ℕ
-printedRows [] = []
-printedRows (i ∷ is) = fields (i .start ∷ i .size ∷ i .owner ∷ []) ++ printedRows is
 
 -- 'Then comes `table`'
 abbrev pub printedTable : State → List ℕ

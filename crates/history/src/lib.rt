@@ -2,7 +2,6 @@
 // answer; a refused line leaves the history as it was. Knows nothing of files.
 mod applying;
 mod pools;
-mod printing;
 mod transcripts;
 
 pub use applying::History;

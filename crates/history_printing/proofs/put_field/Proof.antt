@@ -1,11 +1,11 @@
--- `history::printing::put_field` meets its contract: the byte stands behind the digits.
+-- `history_printing::put_field` meets its contract: the byte stands behind the digits.
 use mathlib.Core.List.{[], _∷_}
 use native.Mathlib.Omega.{arith}
 use borrow.Author.Needs.{needs}
-use Rattle.history.specs.Replay.{decimal}
-use Rattle.history.proofs.PutBehind.{put-byte, put-behind, length-end}
-use Rattle.history.proofs.printing.put_field.Statement.{statement}
-use Rattle.history.proofs.printing.put_field.Tie as tie
+use Rattle.history_printing.specs.Printing.{decimal}
+use Rattle.history_printing.proofs.PutBehind.{put-byte, put-behind, length-end}
+use Rattle.history_printing.proofs.put_field.Statement.{statement}
+use Rattle.history_printing.proofs.put_field.Tie as tie
 
 returns : tie.Need-returns
 returns c =

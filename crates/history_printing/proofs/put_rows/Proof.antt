@@ -1,9 +1,9 @@
--- `history::printing::put_rows` meets its contract. The loop's invariant: the first i rows are written.
+-- `history_printing::put_rows` meets its contract. The loop's invariant: the first i rows are written.
 use Prim.Native.Nat.{_-_}
 use native.Mathlib.Omega.{arith}
-use Rattle.history.proofs.PrintedRows.{Printed, row-fits, printed-none, printed-room, printed-more, printed-all}
-use Rattle.history.proofs.printing.put_rows.Statement.{statement}
-use Rattle.history.proofs.printing.put_rows.Tie as tie
+use Rattle.history_printing.proofs.PrintedRows.{Printed, row-fits, printed-none, printed-room, printed-more, printed-all}
+use Rattle.history_printing.proofs.put_rows.Statement.{statement}
+use Rattle.history_printing.proofs.put_rows.Tie as tie
 
 abbrev Inv-loop : tie.InvT-loop
 Inv-loop out₀ place starts owners q range last₀ i₀ out last i = Printed starts owners range q place out₀ out last i

@@ -1,11 +1,11 @@
--- `history::printing::put_line` meets its contract: each field stands behind the one before it.
+-- `history_printing::put_line` meets its contract: each field stands behind the one before it.
 use mathlib.Core.List.{[], _∷_}
 use native.Mathlib.Omega.{arith}
 use borrow.Author.Needs.{needs}
 use Rattle.history_lines.specs.Text.{space}
-use Rattle.history.proofs.PutBehind.{fields-behind, length-end, length-four}
-use Rattle.history.proofs.printing.put_line.Statement.{statement}
-use Rattle.history.proofs.printing.put_line.Tie as tie
+use Rattle.history_printing.proofs.PutBehind.{fields-behind, length-end, length-four}
+use Rattle.history_printing.proofs.put_line.Statement.{statement}
+use Rattle.history_printing.proofs.put_line.Tie as tie
 
 put-field-requires : tie.Need-put-field-requires
 put-field-requires c κs =

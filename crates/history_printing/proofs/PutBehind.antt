@@ -14,7 +14,7 @@ use lib.ListN.{length, set, take, drop, length-append, length-take, length-drop,
 use lib.Seq.{append-snoc, set-split}
 use Rattle.slicing_core.proofs.Fronts.{front-put}
 use Rattle.history_lines.specs.Text.{lineEnd, space}
-use Rattle.history.specs.Replay.{decimal, fields}
+use Rattle.history_printing.specs.Printing.{decimal, fields}
 
 abbrev pub Put : List ℕ → ℕ → List ℕ → List ℕ → Type 0
 Put b i xs b' = b' ≡ take i b ++ xs ++ drop (i + length xs) b

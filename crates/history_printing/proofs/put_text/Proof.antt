@@ -1,12 +1,12 @@
--- `history::printing::put_text` meets its contract. The loop's invariant: the first i bytes are put.
+-- `history_printing::put_text` meets its contract. The loop's invariant: the first i bytes are put.
 use mathlib.Core.Path.{_≡_, refl, sym, ap, _∙_}
 use Prim.Native.Nat.{_+_, _-_, _≤_}
 use native.Mathlib.Omega.{arith}
 use native.Mathlib.Numerals.{add-one}
 use lib.ListN.{length, set, getD, length-set}
 use lib.Seq.{paste, paste-zero, paste-suc, take-length}
-use Rattle.history.proofs.printing.put_text.Statement.{statement}
-use Rattle.history.proofs.printing.put_text.Tie as tie
+use Rattle.history_printing.proofs.put_text.Statement.{statement}
+use Rattle.history_printing.proofs.put_text.Tie as tie
 
 abbrev Inv-loop : tie.InvT-loop
 Inv-loop out₀ place text i₀ out i = (i ≤ length text) × (length out ≡ length out₀) × (out ≡ paste out₀ place text i)

@@ -5,16 +5,16 @@ use Prim.Native.Nat.{ℕ, _+_, _/_, _%_, _<_}
 use native.Mathlib.Omega.{arith}
 use lib.ListN.{length}
 use borrow.Author.Needs.{needs}
-use Rattle.history.specs.Replay.{decimal}
-use Rattle.history.proofs.Decimals.{decimal-low, decimal-high, decimal-some, length-decimal-high}
-use Rattle.history.proofs.PutBehind.{put-byte, put-behind, put-same}
+use Rattle.history_printing.specs.Printing.{decimal}
+use Rattle.history_printing.proofs.Decimals.{decimal-low, decimal-high, decimal-some, length-decimal-high}
+use Rattle.history_printing.proofs.PutBehind.{put-byte, put-behind, put-same}
 use borrow.Fn.Kinds.{In}
 use borrow.Fn.PlainCycle.{Measures, is, falls, and}
-use Rattle.history.proofs.printing.put_decimal.Reads as put-decimal
-use Rattle.history.proofs.printing.put_decimal.Kinds as put-decimal-kinds
-use Rattle.history.proofs.printing.+put_decimal.Lts-put_decimal as put-decimal-lts
-use Rattle.history.proofs.printing.+put_decimal.{statement}
-use Rattle.history.proofs.printing.+put_decimal.Tie.{close}
+use Rattle.history_printing.proofs.put_decimal.Reads as put-decimal
+use Rattle.history_printing.proofs.put_decimal.Kinds as put-decimal-kinds
+use Rattle.history_printing.proofs.+put_decimal.Lts-put_decimal as put-decimal-lts
+use Rattle.history_printing.proofs.+put_decimal.{statement}
+use Rattle.history_printing.proofs.+put_decimal.Tie.{close}
 
 abbrev μ-put-decimal : Measures 1 put-decimal-kinds.ps ℕ
 μ-put-decimal κs a = a .1 .1 .0

@@ -18,9 +18,9 @@ use lib.Seq.{take-suc, take-all}
 use borrow.Author.Tests.{lt-ltb, le-ltb}
 use Rattle.slicing.specs.Runs.{Interval, Coalesced}
 use Rattle.slicing_core.specs.Rows.{at, tableRows, intervalRows}
-use Rattle.history.specs.Replay.{fields, printedRows}
-use Rattle.history.proofs.Decimals.{length-fields3}
-use Rattle.history.proofs.PutBehind.{Put, Written, put-none, put-behind, put-same, put-room}
+use Rattle.history_printing.specs.Printing.{fields, printedRows}
+use Rattle.history_printing.proofs.Decimals.{length-fields3}
+use Rattle.history_printing.proofs.PutBehind.{Put, Written, put-none, put-behind, put-same, put-room}
 
 -- ---- where an interval ends
 

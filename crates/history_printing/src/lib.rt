@@ -1,4 +1,4 @@
-// What `slices` prints, written into a buffer.
+// What `slices` prints, written into a buffer: lines of numbers, the rows of a table, a text. Internal.
 ghost use mathlib.Core.Path.{_≡_};
 ghost use mathlib.Core.List.{[], _∷_, _++_};
 ghost use Prim.Native.Nat.{_+_, _*_, _≤_, _<_, _^_};
@@ -7,7 +7,7 @@ ghost use lib.Dec.{eqb, ltb};
 ghost use lib.ListN.{length, take, drop};
 ghost use Rattle.slicing.specs.Runs.{Coalesced};
 ghost use Rattle.slicing_core.specs.Rows.{at, tableRows, intervalRows};
-ghost use Rattle.history.specs.Replay.{decimal, fields, printedRows};
+ghost use Rattle.history_printing.specs.Printing.{decimal, fields, printedRows};
 
 // Writes the decimal digits of a number at a place, and answers the place behind them.
 fn put_decimal(out: &mut [u8], place: usize, n: u64) -> usize

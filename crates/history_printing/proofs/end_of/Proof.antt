@@ -1,12 +1,12 @@
--- `history::printing::end_of` meets its contract.
+-- `history_printing::end_of` meets its contract.
 use mathlib.Core.Path.{sym, ap, _∙_}
 use mathlib.Core.Bool.{cond}
 use Prim.Native.Nat.{_+_}
 use borrow.Author.Needs.{needs}
 use borrow.Author.Tests.{lt-ltb, le-ltb}
 use Rattle.slicing_core.specs.Rows.{at}
-use Rattle.history.proofs.printing.end_of.Statement.{statement}
-use Rattle.history.proofs.printing.end_of.Tie as tie
+use Rattle.history_printing.proofs.end_of.Statement.{statement}
+use Rattle.history_printing.proofs.end_of.Tie as tie
 
 returns : tie.Need-returns
 returns c =

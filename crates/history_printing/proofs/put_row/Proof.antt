@@ -1,11 +1,11 @@
--- `history::printing::put_row` meets its contract: each field stands behind the one before it.
+-- `history_printing::put_row` meets its contract: each field stands behind the one before it.
 use mathlib.Core.List.{[], _∷_}
 use native.Mathlib.Omega.{arith}
 use borrow.Author.Needs.{needs}
 use Rattle.history_lines.specs.Text.{space}
-use Rattle.history.proofs.PutBehind.{fields-behind, length-end, length-three}
-use Rattle.history.proofs.printing.put_row.Statement.{statement}
-use Rattle.history.proofs.printing.put_row.Tie as tie
+use Rattle.history_printing.proofs.PutBehind.{fields-behind, length-end, length-three}
+use Rattle.history_printing.proofs.put_row.Statement.{statement}
+use Rattle.history_printing.proofs.put_row.Tie as tie
 
 put-field-requires : tie.Need-put-field-requires
 put-field-requires c κs =
