@@ -24,13 +24,13 @@ use Rattle.slicing.proofs.Changes.{valid-change}
 use Rattle.move_lists.specs.Promises.{moveOf, rowOf, Answered, Changed}
 use Rattle.history_lines.specs.declared.lines.LineAnswer.{LineAnswer}
 use Rattle.history_lines.specs.declared.lines.LineAnswer.the-variants.{Range, Add, Remove, Resize, Refused}
-use Rattle.history.specs.Histories.{lastOf, linesOf, readAll, printedLines, unfinished}
-use Rattle.history.specs.Histories as Histories
-use Rattle.history_lines.specs.Lines.{farRange, lineIn}
-use Rattle.history_printing.specs.Printing.{fields}
-use Rattle.history.specs.Replay.{Reading, start, refusal, places, applied, printedLine, printedTable, replayed}
+use Rattle.history_lines.specs.Lines.{rangeOutside, lineIn}
 use Rattle.history_lines.specs.Text.{lineEnd, split}
 use Rattle.history_lines.proofs.LineLimits.{line-fits, refused-fits, range-limits}
+use Rattle.history_printing.specs.Printing.{fields}
+use Rattle.history.specs.Histories.{lastOf, linesOf, readAll, printedLines, unfinished}
+use Rattle.history.specs.Histories as Histories
+use Rattle.history.specs.Replay.{Reading, start, refusal, places, applied, printedLine, printedTable, replayed}
 use Rattle.history.proofs.ReplayLaws.{fresh-valid, readAll-join, poolAfter-valid, printedLines-join, replayed-text}
 use Rattle.demand3.specs.CallLists.{Step, Call, callsOf, Kept, poolAfter}
 use Rattle.demand3.specs.Openings.{Opening}
@@ -191,7 +191,7 @@ parted (p ∷ ps) = go (lineIn p) refl (parted ps)
 
 -- ---- every text
 
-pub opens : (R M : ℕ) → farRange R M ≡ false → Opening R M (poolOf (fresh R M)) blank
+pub opens : (R M : ℕ) → rangeOutside R M ≡ false → Opening R M (poolOf (fresh R M)) blank
 opens R M e =
     let l : (1 ≤ R) × (R ≤ maxRange) × (1 ≤ M) × (M ≤ maxLimit) = range-limits R M e in
     opens-fresh R M (l .0) (l .1) (l .2) (l .3)
@@ -220,7 +220,7 @@ module _ (xs : List ℕ) (b : Begun (linesOf xs)) where
   abbrev first : State
   first = fresh (b .range) (b .limit)
 
-  fits : farRange (b .range) (b .limit) ≡ false
+  fits : rangeOutside (b .range) (b .limit) ≡ false
   fits = line-fits (b .line) (b .range) (b .limit) (b .ranged)
 
   calls : Behind first (b .back)

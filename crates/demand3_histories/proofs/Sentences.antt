@@ -34,16 +34,16 @@ use Rattle.slicing.proofs.Counting.{count-append}
 use Rattle.slicing_core.specs.Rows.{at, intervalRows}
 use Rattle.history_lines.specs.declared.lines.LineAnswer.{LineAnswer}
 use Rattle.history_lines.specs.declared.lines.LineAnswer.the-variants.{Range, Add, Remove, Resize, Refused}
+use Rattle.history_lines.specs.Lines.{lineIn}
+use Rattle.history_lines.specs.Text.{lineEnd, split}
+use Rattle.history_lines.proofs.LineLimits.{range-limits}
+use Rattle.history_printing.specs.Printing.{fields, printedRows}
 use Rattle.history.specs.declared.transcripts.TranscriptAnswer.{TranscriptAnswer}
 use Rattle.history.specs.declared.transcripts.TranscriptAnswer.the-variants.{Printed}
 use Rattle.history.specs.Histories.{lastOf, linesOf, lineEnds, unfinished}
 use Rattle.history.specs.Histories as Histories
-use Rattle.history_lines.specs.Lines.{lineIn}
 use Rattle.history.specs.Promises.{room, Transcribed, Left}
-use Rattle.history_printing.specs.Printing.{fields, printedRows}
 use Rattle.history.specs.Replay.{printedTable, maxText, replayed, transcript}
-use Rattle.history_lines.specs.Text.{lineEnd, split}
-use Rattle.history_lines.proofs.LineLimits.{range-limits}
 use Rattle.history.proofs.PrintedLines.{lineEnds-then, lineEnds-fields}
 use Rattle.history.proofs.PrintedTables.{heading, table-rows}
 use Rattle.history.proofs.ReplayLaws.{poolAfter-valid, transcript-replayed}

@@ -24,12 +24,12 @@ use Rattle.slicing.specs.Ledger.{blank}
 use Rattle.move_lists.specs.declared.Move.{Move}
 use Rattle.history_lines.specs.declared.lines.LineAnswer.{LineAnswer}
 use Rattle.history_lines.specs.declared.lines.LineAnswer.the-variants.{Range, Add, Remove, Resize, Refused}
+use Rattle.history_lines.specs.Lines.{rangeOutside, lineIn}
+use Rattle.history_lines.specs.Text.{lineEnd, split}
+use Rattle.history_printing.specs.Printing.{fields}
 use Rattle.history.specs.Histories.{lastOf, linesOf, unfinished}
 use Rattle.history.specs.Histories as Histories
-use Rattle.history_lines.specs.Lines.{farRange, lineIn}
-use Rattle.history_printing.specs.Printing.{fields}
 use Rattle.history.specs.Replay.{printedTable, replayed}
-use Rattle.history_lines.specs.Text.{lineEnd, split}
 use Rattle.demand3.specs.CallLists.{Step, Call, callsOf, Kept, poolAfter}
 use Rattle.demand3.specs.Demand3.{Demand3}
 
@@ -118,7 +118,7 @@ pub record Ranged (xs : List ℕ) : Type 0 where
   pub range : ℕ
   pub limit : ℕ
   pub ranged : lineIn line ≡ Range range limit
-  pub fits : farRange range limit ≡ false
+  pub fits : rangeOutside range limit ≡ false
   pub steps : List Step
   pub asked : callsOf steps ≡ callsOfLines back
   pub kept : Kept (poolOf (fresh range limit)) steps

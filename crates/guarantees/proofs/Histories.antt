@@ -21,18 +21,18 @@ use Rattle.slicing.specs.Runs.{Run}
 use Rattle.slicing.specs.SixSteps.{Move, points}
 use Rattle.placement.specs.Pools.{stateOf, poolOf, ValidPool}
 use Rattle.placement.specs.declared.PoolAnswer.{PoolAnswer}
-use Rattle.history.specs.Histories.{poolAfter}
 use Rattle.history_lines.specs.Lines.{capacityReply, CapacityRead, lineReply, lineIn, LineRead}
-use Rattle.history.specs.Promises.{transcriptReply, settledLine, refused, appliedLine, Applied, Transcribed, Left}
-use Rattle.history.specs.Replay.{places, replayed, transcript}
 use Rattle.history_lines.specs.Text.{capacityIn}
-use Rattle.history.specs.declared.applying.History.{History}
-use Rattle.history.specs.declared.applying.LineResult.{LineResult}
 use Rattle.history_lines.specs.declared.lines.LineAnswer.{LineAnswer}
 use Rattle.history_lines.specs.declared.lines.LineAnswer.the-variants.{Range, Add, Remove, Resize, Refused}
 use Rattle.history_lines.specs.declared.numbers.CapacityAnswer.{CapacityAnswer}
 use Rattle.history_lines.specs.declared.numbers.CapacityAnswer.the-variants as Capacity
 use Rattle.history_lines.specs.declared.numbers.Parsed.the-variants as Word
+use Rattle.history.specs.Histories.{poolAfter}
+use Rattle.history.specs.Promises.{transcriptReply, settledLine, refused, appliedLine, Applied, Transcribed, Left}
+use Rattle.history.specs.Replay.{places, replayed, transcript}
+use Rattle.history.specs.declared.applying.History.{History}
+use Rattle.history.specs.declared.applying.LineResult.{LineResult}
 use Rattle.history.specs.declared.transcripts.TranscriptAnswer.{TranscriptAnswer}
 use Rattle.history.specs.declared.transcripts.TranscriptAnswer.the-variants as Text
 use Rattle.guarantees.proofs.ChangeRules.{Stops, Passes, stops, passes}

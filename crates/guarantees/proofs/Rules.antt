@@ -38,11 +38,11 @@ use Rattle.images.specs.declared.WriteAnswer.{WriteAnswer}
 use Rattle.images.specs.declared.WriteAnswer.the-variants.{Written}
 use Rattle.images.proofs.RoundTrips as RoundTrips
 use Rattle.slicing_core.specs.Rows.{at}
-use Rattle.history.specs.Histories.{lastOf, linesOf, textOf, Complete, lineEnds, lineCount, readAll, poolAfter, acceptedLines, printedLines, unfinished}
 use Rattle.history_lines.specs.Lines.{lineIn}
-use Rattle.history.specs.Replay.{Reading, start, applied, replay, replayed, transcript, printedTable}
 use Rattle.history_lines.specs.Text.{split}
 use Rattle.history_lines.specs.declared.lines.LineAnswer.{LineAnswer}
+use Rattle.history.specs.Histories.{lastOf, linesOf, textOf, Complete, lineEnds, lineCount, readAll, poolAfter, acceptedLines, printedLines, unfinished}
+use Rattle.history.specs.Replay.{Reading, start, applied, replay, replayed, transcript, printedTable}
 use Rattle.history.proofs.PrintedLines as PrintedLines
 use Rattle.history.proofs.ReplayLaws as ReplayLaws
 use Rattle.history.proofs.TextLines as TextLines

@@ -18,14 +18,14 @@ use Rattle.placement.specs.declared.PoolAnswer.{PoolAnswer}
 use Rattle.slicing.specs.Changes.{fresh, Change, change}
 use Rattle.slicing.specs.Changes.{refused as refusal}
 use Rattle.slicing.specs.SixSteps.{move}
-use Rattle.history.specs.declared.applying.History.{History}
-use Rattle.history.specs.declared.applying.LineResult.{LineResult}
 use Rattle.history_lines.specs.declared.lines.LineAnswer.{LineAnswer}
 use Rattle.history_lines.specs.declared.lines.LineAnswer.the-variants.{Range, Add, Remove, Resize, Refused}
-use Rattle.history_lines.specs.Lines.{farRange, lineIn}
+use Rattle.history_lines.specs.Lines.{rangeOutside, lineIn}
+use Rattle.history_lines.proofs.LineLimits.{Fits, lineIn-fits}
+use Rattle.history.specs.declared.applying.History.{History}
+use Rattle.history.specs.declared.applying.LineResult.{LineResult}
 use Rattle.history.specs.Promises.{refused, settledLine, rangedLine, appliedLine, ChangedLine, Said, Applied}
 use Rattle.history.specs.Replay.{places}
-use Rattle.history_lines.proofs.LineLimits.{Fits, lineIn-fits}
 
 movesIn-four : (n : ℕ) → movesIn (replicate (4 * n) 0) ≡ replicate n (move 0 0 0 0)
 movesIn-four zero = refl
@@ -60,13 +60,13 @@ module _ (h : History) (k : Change) (r : LineResult) where
       none o = rw (o .number, o .moved, o .count, o .pool)
 
 -- a fresh pool of numbers within their limits
-pub fresh-inside : (R M : ℕ) (a : PoolAnswer) → farRange R M ≡ false → Fresh R M a → a .pool ≡ poolOf (fresh R M)
+pub fresh-inside : (R M : ℕ) (a : PoolAnswer) → rangeOutside R M ≡ false → Fresh R M a → a .pool ≡ poolOf (fresh R M)
 fresh-inside R M a e f = f .pool ∙ rw e
 
 pub ranged-after : (h : History) (R M : ℕ) (r : LineResult) → r ≡ refused h 3 → h .begun ≡ true → r ≡ rangedLine h R M
 ranged-after h R M r e b = e ∙ rw b
 
-pub ranged-first : (h : History) (R M : ℕ) (a : PoolAnswer) → farRange R M ≡ false → Fresh R M a → h .begun ≡ false
+pub ranged-first : (h : History) (R M : ℕ) (a : PoolAnswer) → rangeOutside R M ≡ false → Fresh R M a → h .begun ≡ false
     → record { refusal = 0; moved = 0; count = 0; history = record { begun = true; pool = a .pool } } ≡ rangedLine h R M
 ranged-first h R M a e f b = rw (b, fresh-inside R M a e f)
 

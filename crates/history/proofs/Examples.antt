@@ -12,9 +12,9 @@ use Rattle.slicing.specs.LargestRemainder.{largestRemainder}
 use Rattle.slicing.specs.ShareRule.{shares}
 use Rattle.slicing.specs.SixSteps.{turns}
 use Rattle.history_lines.specs.Lines.{lineIn}
+use Rattle.history_lines.specs.Text.{numberIn, capacityIn}
 use Rattle.history_printing.specs.Printing.{decimal}
 use Rattle.history.specs.Replay.{replayed, transcript}
-use Rattle.history_lines.specs.Text.{numberIn, capacityIn}
 
 abbrev pub example : List ℕ
 example =

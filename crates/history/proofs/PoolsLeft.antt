@@ -12,15 +12,15 @@ use lib.ListN.{length, drop, drop-of-length-le}
 use borrow.Author.Tests.{lt-ltb, le-ltb}
 use Rattle.placement.specs.Pools.{poolOf, ValidPool}
 use Rattle.slicing.specs.Changes.{fresh}
+use Rattle.history_lines.specs.declared.lines.Part.{Part}
+use Rattle.history_lines.specs.Cuts.{partAt}
+use Rattle.history_lines.proofs.TextParts.{part-fits}
 use Rattle.history.specs.declared.applying.History.{History}
 use Rattle.history.specs.declared.applying.LineResult.{LineResult}
-use Rattle.history_lines.specs.declared.lines.Part.{Part}
 use Rattle.history.specs.Histories.{linesOf, readAll}
-use Rattle.history_lines.specs.Cuts.{partAt}
 use Rattle.history.specs.Promises.{Said, Left}
 use Rattle.history.specs.Replay.{Reading, start, applied, maxText}
 use Rattle.history.proofs.ReplaySteps.{readingOf, new-valid, new-reading, Given, given-said}
-use Rattle.history_lines.proofs.TextParts.{part-fits}
 use Rattle.history.proofs.ReplayParts.{readAll-part}
 
 module _ (text : List ℕ) where

@@ -20,12 +20,12 @@ use Rattle.slicing.specs.Replies.{replied, declined}
 use Rattle.slicing.specs.Runs.{intervals}
 use Rattle.slicing_core.specs.Rows.{intervalRows}
 use Rattle.slicing_core.proofs.Fronts.{front-put}
+use Rattle.history_lines.specs.Text.{lineEnd}
+use Rattle.history_printing.specs.Printing.{printedRows}
 use Rattle.history.specs.declared.transcripts.TranscriptAnswer.{TranscriptAnswer}
 use Rattle.history.specs.declared.transcripts.TranscriptAnswer.the-variants.{Printed, Refused}
 use Rattle.history.specs.Promises.{room, transcriptReply, Transcribed}
-use Rattle.history_printing.specs.Printing.{printedRows}
 use Rattle.history.specs.Replay.{printedTable, maxText, tooLong, replayed, transcript}
-use Rattle.history_lines.specs.Text.{lineEnd}
 
 -- the line `table`
 abbrev pub heading : List ℕ

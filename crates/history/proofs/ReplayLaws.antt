@@ -23,11 +23,11 @@ use Rattle.slicing.proofs.Changes.{valid-change, change-refused}
 use Rattle.slicing.proofs.Claims.{valid-fresh}
 use Rattle.history_lines.specs.declared.lines.LineAnswer.{LineAnswer}
 use Rattle.history_lines.specs.declared.lines.LineAnswer.the-variants.{Range, Add, Remove, Resize, Refused}
-use Rattle.history.specs.Histories.{lastOf, linesOf, textOf, Whole, Complete, readAll, poolAfter, acceptedLines, printedLines, unfinished}
-use Rattle.history_lines.specs.Lines.{farRange, lineIn}
-use Rattle.history.specs.Replay.{Reading, start, Result, places, changed, applied, printedLine, printedTable, replay, maxText, replayed, transcript}
+use Rattle.history_lines.specs.Lines.{rangeOutside, lineIn}
 use Rattle.history_lines.specs.Text.{lineEnd, split}
 use Rattle.history_lines.proofs.LineLimits.{line-fits, range-limits}
+use Rattle.history.specs.Histories.{lastOf, linesOf, textOf, Whole, Complete, readAll, poolAfter, acceptedLines, printedLines, unfinished}
+use Rattle.history.specs.Replay.{Reading, start, Result, places, changed, applied, printedLine, printedTable, replay, maxText, replayed, transcript}
 use Rattle.history.proofs.TextLines.{parts-some, parts-last, lines-join, parts-join, parts-complete, complete-join, lines-whole, lines-textOf}
 
 -- ---- a line
@@ -50,7 +50,7 @@ refused-stays h (Add d c) = stays-changed (h .begun) (h .pool) (add d c)
 refused-stays h (Remove d) = stays-changed (h .begun) (h .pool) (remove d)
 refused-stays h (Resize d c) = stays-changed (h .begun) (h .pool) (resize d c)
 
-pub fresh-valid : (R M : ℕ) → farRange R M ≡ false → Valid (fresh R M)
+pub fresh-valid : (R M : ℕ) → rangeOutside R M ≡ false → Valid (fresh R M)
 fresh-valid R M e =
     let l : (1 ≤ R) × (R ≤ maxRange) × (1 ≤ M) × (M ≤ maxLimit) = range-limits R M e in
     valid-fresh R M (l .0) (l .1) (l .2) (l .3)
@@ -60,7 +60,7 @@ module _ (s : State) (v : Valid s) where
   changed-valid true k = valid-change s v places k
   changed-valid false k = v
 
-  ranged-valid : (b : Bool) (R M : ℕ) → farRange R M ≡ false → Valid (applied (record { begun = b; pool = s }) (Range R M) .after .pool)
+  ranged-valid : (b : Bool) (R M : ℕ) → rangeOutside R M ≡ false → Valid (applied (record { begun = b; pool = s }) (Range R M) .after .pool)
   ranged-valid true R M e = v
   ranged-valid false R M e = fresh-valid R M e
 

@@ -17,14 +17,14 @@ use Rattle.slicing.specs.SixSteps.{move}
 use Rattle.slicing.specs.Validity.{Valid}
 use Rattle.slicing.proofs.Changes.{valid-change, outside-false, or-false}
 use Rattle.slicing.proofs.Claims.{valid-fresh}
-use Rattle.history.specs.declared.applying.History.{History}
-use Rattle.history.specs.declared.applying.LineResult.{LineResult}
 use Rattle.history_lines.specs.declared.lines.LineAnswer.{LineAnswer}
 use Rattle.history_lines.specs.declared.lines.LineAnswer.the-variants.{Range, Add, Remove, Resize, Refused}
-use Rattle.history_lines.specs.Lines.{farRange}
+use Rattle.history_lines.specs.Lines.{rangeOutside}
+use Rattle.history_lines.proofs.LineLimits.{Fits}
+use Rattle.history.specs.declared.applying.History.{History}
+use Rattle.history.specs.declared.applying.LineResult.{LineResult}
 use Rattle.history.specs.Promises.{refused, settledLine, rangedLine, Said}
 use Rattle.history.specs.Replay.{Reading, start, Result, places, refusal, settled, changed, applied}
-use Rattle.history_lines.proofs.LineLimits.{Fits}
 use Rattle.history.proofs.ReplayBounds.{moved-most, count-most}
 
 abbrev pub readingOf : History → Reading
@@ -89,7 +89,7 @@ module _ (h : History) (v : ValidPool (h .pool)) where
       }
 
   -- a range line within its limits
-  given-range : (R M : ℕ) → farRange R M ≡ false → (r : LineResult) → r ≡ rangedLine h R M → Given (applied (readingOf h) (Range R M)) r
+  given-range : (R M : ℕ) → rangeOutside R M ≡ false → (r : LineResult) → r ≡ rangedLine h R M → Given (applied (readingOf h) (Range R M)) r
   given-range R M f r e =
       given-either (h .begun) _ _ _ _ r refl e (λ b i. given-refused 3 r i) (λ b i. subst (Given _) (sym i) whole)
     where

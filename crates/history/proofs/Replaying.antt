@@ -14,18 +14,18 @@ use Rattle.placement.specs.Pools.{stateOf, poolOf, ValidPool}
 use Rattle.placement.proofs.ValidParts.{valid-limited}
 use Rattle.slicing.specs.Changes.{fresh}
 use Rattle.slicing_core.proofs.Fronts.{front-put}
-use Rattle.history.specs.declared.applying.History.{History}
-use Rattle.history.specs.declared.applying.LineResult.{LineResult}
 use Rattle.history_lines.specs.declared.lines.Part.{Part}
 use Rattle.history_lines.specs.Cuts.{partAt}
-use Rattle.history.specs.Promises.{Said}
-use Rattle.history_printing.specs.Printing.{fields}
-use Rattle.history.specs.Replay.{Reading, applied, printedTable, replay, replayed}
 use Rattle.history_lines.specs.Text.{lineEnd, split}
+use Rattle.history_lines.proofs.TextParts.{part-fits, part-above, part-within}
+use Rattle.history_printing.specs.Printing.{fields}
 use Rattle.history_printing.proofs.Decimals.{length-fields4}
 use Rattle.history_printing.proofs.PutBehind.{put-room}
+use Rattle.history.specs.declared.applying.History.{History}
+use Rattle.history.specs.declared.applying.LineResult.{LineResult}
+use Rattle.history.specs.Promises.{Said}
+use Rattle.history.specs.Replay.{Reading, applied, printedTable, replay, replayed}
 use Rattle.history.proofs.ReplaySteps.{readingOf, new-valid, new-reading, Given, given-said}
-use Rattle.history_lines.proofs.TextParts.{part-fits, part-above, part-within}
 use Rattle.history.proofs.ReplayParts.{replay-part}
 
 module _ (text : List ℕ) where

@@ -18,14 +18,14 @@ use Rattle.placement.specs.Pools.{stateOf, poolOf, ValidPool}
 use Rattle.placement.specs.declared.PoolAnswer.{PoolAnswer}
 use Rattle.slicing.specs.Changes.{fresh, Change, add, remove, resize, Outcome, change}
 use Rattle.slicing.specs.Replies.{Reply, replied, declined}
-use Rattle.history.specs.declared.applying.History.{History}
-use Rattle.history.specs.declared.applying.LineResult.{LineResult}
 use Rattle.history_lines.specs.declared.lines.LineAnswer.{LineAnswer}
 use Rattle.history_lines.specs.declared.lines.LineAnswer.the-variants.{Range, Add, Remove, Resize, Refused}
+use Rattle.history_lines.specs.Lines.{rangeOutside, lineIn}
+use Rattle.history.specs.declared.applying.History.{History}
+use Rattle.history.specs.declared.applying.LineResult.{LineResult}
 use Rattle.history.specs.declared.transcripts.TranscriptAnswer.{TranscriptAnswer}
 use Rattle.history.specs.declared.transcripts.TranscriptAnswer.the-variants as Answer
 use Rattle.history.specs.Histories.{poolAfter}
-use Rattle.history_lines.specs.Lines.{farRange, lineIn}
 use Rattle.history.specs.Replay.{places, maxText, transcript}
 
 abbrev pub refused : History → ℕ → LineResult
@@ -56,7 +56,7 @@ pub record ChangedLine (h : History) (k : Change) (r : LineResult) : Type 0 wher
 -- what a line says, with a range within its limits
 abbrev pub Said : History → LineAnswer → LineResult → Type 0
 Said h (Refused n) r = r ≡ refused h n
-Said h (Range R M) r = farRange R M ≡ false → r ≡ rangedLine h R M
+Said h (Range R M) r = rangeOutside R M ≡ false → r ≡ rangedLine h R M
 Said h (Add d c) r = ChangedLine h (add d c) r
 Said h (Remove d) r = ChangedLine h (remove d) r
 Said h (Resize d c) r = ChangedLine h (resize d c) r

@@ -11,7 +11,7 @@ ghost use lib.ListN.{replicate};
 ghost use Rattle.placement.specs.Pools.{poolOf};
 ghost use Rattle.placement.specs.Promises.{changeOf};
 ghost use Rattle.slicing.specs.Changes as Changes;
-ghost use Rattle.history_lines.specs.Lines.{farRange};
+ghost use Rattle.history_lines.specs.Lines.{rangeOutside};
 ghost use Rattle.history.specs.Promises.{rangedLine, ChangedLine, Said, Applied};
 ghost use Rattle.history.specs.Promises.{refused as refusedLine};
 
@@ -81,7 +81,7 @@ fn settled(answer: ChangeAnswer) -> LineResult
 
 // A range line: it comes first, once.
 fn ranged(history: History, range: u64, limit: u64) -> LineResult
-    ensures { λ r. ⌜ (farRange range limit ≡ false → r ≡ rangedLine history range limit) ⌝ }
+    ensures { λ r. ⌜ (rangeOutside range limit ≡ false → r ≡ rangedLine history range limit) ⌝ }
 {
     if history.begun {
         return refused(history, 3);

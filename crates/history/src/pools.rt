@@ -1,9 +1,9 @@
 // The pool that a history text leaves.
 use crate::applying::History;
 use crate::applying::applied;
+use crate::transcripts::LONGEST;
 use history_lines::LineAnswer;
 use history_lines::part_at;
-use crate::transcripts::LONGEST;
 use placement::PoolAnswer;
 ghost use Rattle.history.specs.Promises.{Left};
 

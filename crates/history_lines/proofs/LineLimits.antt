@@ -15,16 +15,16 @@ use Rattle.history_lines.specs.declared.lines.LineAnswer.{LineAnswer}
 use Rattle.history_lines.specs.declared.lines.LineAnswer.the-variants.{Range, Add, Remove, Resize, Refused}
 use Rattle.history_lines.specs.declared.numbers.Parsed.{Parsed}
 use Rattle.history_lines.specs.declared.numbers.Parsed.the-variants.{Number, Shapeless}
-use Rattle.history_lines.specs.Lines.{rangeWord, addWord, removeWord, resizeWord, same, pairLine, removeLine, farRange, farDevice, lineOf, lineIn}
+use Rattle.history_lines.specs.Lines.{rangeWord, addWord, removeWord, resizeWord, same, pairLine, removeLine, rangeOutside, deviceOutside, lineOf, lineIn}
 use Rattle.history_lines.specs.Text.{space, split, numberIn, capacityIn}
 
 -- a line within its limits
 abbrev pub Fits : LineAnswer → Type 0
 Fits (Refused n) = (1 ≤ n) × (n ≤ 2)
-Fits (Range R M) = farRange R M ≡ false
-Fits (Add d c) = farDevice d c ≡ false
+Fits (Range R M) = rangeOutside R M ≡ false
+Fits (Add d c) = deviceOutside d c ≡ false
 Fits (Remove d) = outside maxId d ≡ false
-Fits (Resize d c) = farDevice d c ≡ false
+Fits (Resize d c) = deviceOutside d c ≡ false
 
 pub shapeless : Fits (Refused 1)
 shapeless = (omega arith, omega arith)
@@ -37,10 +37,10 @@ judged : (t : Bool) (l : LineAnswer) → (t ≡ false → Fits l) → Fits (cond
 judged true l f = (omega arith, omega arith)
 judged false l f = f refl
 
-pair-fits : (f : ℕ → ℕ → LineAnswer) (far : ℕ → ℕ → Bool) → ((a b : ℕ) → far a b ≡ false → Fits (f a b)) → (p q : Parsed) → Fits (pairLine f far p q)
-pair-fits f far h Shapeless q = shapeless
-pair-fits f far h (Number a) Shapeless = shapeless
-pair-fits f far h (Number a) (Number b) = judged (far a b) (f a b) (h a b)
+pair-fits : (f : ℕ → ℕ → LineAnswer) (out : ℕ → ℕ → Bool) → ((a b : ℕ) → out a b ≡ false → Fits (f a b)) → (p q : Parsed) → Fits (pairLine f out p q)
+pair-fits f out h Shapeless q = shapeless
+pair-fits f out h (Number a) Shapeless = shapeless
+pair-fits f out h (Number a) (Number b) = judged (out a b) (f a b) (h a b)
 
 removed-fits : (p : Parsed) → Fits (removeLine p)
 removed-fits Shapeless = shapeless
@@ -51,22 +51,22 @@ words-fit [] = shapeless
 words-fit (k ∷ []) = shapeless
 words-fit (k ∷ a ∷ []) = either (same k removeWord) _ _ (removed-fits (numberIn a)) shapeless
 words-fit (k ∷ a ∷ b ∷ []) =
-    either (same k rangeWord) _ _ (pair-fits Range farRange (λ R M e. e) (numberIn a) (numberIn b))
-    (either (same k addWord) _ _ (pair-fits Add farDevice (λ d c e. e) (numberIn a) (capacityIn b))
-    (either (same k resizeWord) _ _ (pair-fits Resize farDevice (λ d c e. e) (numberIn a) (capacityIn b)) shapeless))
+    either (same k rangeWord) _ _ (pair-fits Range rangeOutside (λ R M e. e) (numberIn a) (numberIn b))
+    (either (same k addWord) _ _ (pair-fits Add deviceOutside (λ d c e. e) (numberIn a) (capacityIn b))
+    (either (same k resizeWord) _ _ (pair-fits Resize deviceOutside (λ d c e. e) (numberIn a) (capacityIn b)) shapeless))
 words-fit (k ∷ a ∷ b ∷ c ∷ ws) = shapeless
 
 pub lineIn-fits : (xs : List ℕ) → Fits (lineIn xs)
 unfolding lineIn
 lineIn-fits xs = words-fit (split space xs)
 
-pub line-fits : (xs : List ℕ) (R M : ℕ) → lineIn xs ≡ Range R M → farRange R M ≡ false
+pub line-fits : (xs : List ℕ) (R M : ℕ) → lineIn xs ≡ Range R M → rangeOutside R M ≡ false
 line-fits xs R M e = subst Fits e (lineIn-fits xs)
 
 pub refused-fits : (xs : List ℕ) (n : ℕ) → lineIn xs ≡ Refused n → (1 ≤ n) × (n ≤ 2)
 refused-fits xs n e = subst Fits e (lineIn-fits xs)
 
-pub range-limits : (R M : ℕ) → farRange R M ≡ false → (1 ≤ R) × (R ≤ maxRange) × (1 ≤ M) × (M ≤ maxLimit)
+pub range-limits : (R M : ℕ) → rangeOutside R M ≡ false → (1 ≤ R) × (R ≤ maxRange) × (1 ≤ M) × (M ≤ maxLimit)
 range-limits R M e =
     let p : (outside maxRange R ≡ false) × (outside maxLimit M ≡ false) = or-false (outside maxRange R) (outside maxLimit M) e in
     let r : (1 ≤ R) × (R ≤ maxRange) = outside-false maxRange R (p .0) in

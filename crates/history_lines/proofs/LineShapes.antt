@@ -3,9 +3,9 @@
 --   resized l              the answer l of an `add` line, for a `resize` line
 --
 -- same: same-length (texts of two lengths), same-here, same-next, same-end (two texts from a place on)
--- two words: pair-first, pair-second (a word that has no shape), pair-far, pair-near (by their limits); far-first, far-second, far-none
+-- two words: pair-first, pair-second (a word that has no shape), pair-outside, pair-inside (by their limits); outside-first, outside-second, outside-none
 -- devices: pair-refused, capacity-known (what the answer of the capacity reader says); resized-add, resized-other
--- removals: remove-none, remove-far, remove-near
+-- removals: remove-none, remove-outside, remove-inside
 -- words: three-range, three-add, three-resize, three-other; line-one, line-remove, line-two, line-three, line-four (by the number of words);
 --   line-read (what a line says is its reply)
 use mathlib.Core.Path.{_≡_, refl, sym, ap, _∙_}
@@ -23,7 +23,7 @@ use denote.Enum.Declared.{tagOf}
 use borrow.Author.Tests.{eq-eqb, ne-eqb}
 use Rattle.slicing.specs.Limits.{maxId, maxCapacity, outside}
 use Rattle.history_lines.specs.Text.{space, split, numberIn, capacityIn}
-use Rattle.history_lines.specs.Lines.{capacityReply, capacityAnswer, lineReply, same, rangeWord, addWord, removeWord, resizeWord, pairLine, removeLine, farRange, farDevice, threeWords, lineOf, lineIn, LineRead}
+use Rattle.history_lines.specs.Lines.{capacityReply, capacityAnswer, lineReply, same, rangeWord, addWord, removeWord, resizeWord, pairLine, removeLine, rangeOutside, deviceOutside, threeWords, lineOf, lineIn, LineRead}
 use Rattle.history_lines.specs.declared.numbers.CapacityAnswer.{CapacityAnswer}
 use Rattle.history_lines.specs.declared.numbers.CapacityAnswer.the-variants as Capacity
 use Rattle.history_lines.specs.declared.lines.LineAnswer.{LineAnswer}
@@ -60,30 +60,30 @@ module _ (a b : List ℕ) (l : length a ≡ length b) (i : ℕ) (s : same (drop 
 
 -- ---- two words
 
-module _ (f : ℕ → ℕ → LineAnswer) (far : ℕ → ℕ → Bool) (p q : Parsed) where
-  pub pair-first : p ≡ Shapeless → Refused 1 ≡ pairLine f far p q
+module _ (f : ℕ → ℕ → LineAnswer) (out : ℕ → ℕ → Bool) (p q : Parsed) where
+  pub pair-first : p ≡ Shapeless → Refused 1 ≡ pairLine f out p q
   pair-first k = rw k
 
   module _ (a : ℕ) (k : p ≡ Number a) where
-    pub pair-second : q ≡ Shapeless → Refused 1 ≡ pairLine f far p q
+    pub pair-second : q ≡ Shapeless → Refused 1 ≡ pairLine f out p q
     pair-second l = rw (k, l)
 
     module _ (b : ℕ) (l : q ≡ Number b) where
-      pub pair-far : far a b ≡ true → Refused 2 ≡ pairLine f far p q
-      pair-far h = rw (k, l, h)
+      pub pair-outside : out a b ≡ true → Refused 2 ≡ pairLine f out p q
+      pair-outside h = rw (k, l, h)
 
-      pub pair-near : far a b ≡ false → f a b ≡ pairLine f far p q
-      pair-near h = rw (k, l, h)
+      pub pair-inside : out a b ≡ false → f a b ≡ pairLine f out p q
+      pair-inside h = rw (k, l, h)
 
-pub far-first : (s t : Bool) → s ≡ true → s || t ≡ true
-far-first s t e = rw e
+pub outside-first : (s t : Bool) → s ≡ true → s || t ≡ true
+outside-first s t e = rw e
 
-pub far-second : (s t : Bool) → t ≡ true → s || t ≡ true
-far-second true t e = refl
-far-second false t e = e
+pub outside-second : (s t : Bool) → t ≡ true → s || t ≡ true
+outside-second true t e = refl
+outside-second false t e = e
 
-pub far-none : (s t : Bool) → s ≡ false → t ≡ false → s || t ≡ false
-far-none s t e k = rw (e, k)
+pub outside-none : (s t : Bool) → s ≡ false → t ≡ false → s || t ≡ false
+outside-none s t e k = rw (e, k)
 
 -- ---- devices
 
@@ -97,16 +97,16 @@ refused-known : (m n : ℕ) → Capacity.Refused m ≡ Capacity.Thousandths n �
 refused-known m n e = let z : _≡_ {A = ℕ} 0 1 = cc in omega arith
 
 capacity-refused : (f : ℕ → ℕ → LineAnswer) (a n : ℕ) (q : Parsed) → Capacity.Refused n ≡ capacityAnswer q
-    → Refused n ≡ pairLine f farDevice (Number a) q
+    → Refused n ≡ pairLine f deviceOutside (Number a) q
 capacity-refused f a n Shapeless e = ap Refused (refused-same n 1 e)
 capacity-refused f a n (Number v) e = go (outside maxCapacity v) refl
   where
-    go : (t : Bool) → outside maxCapacity v ≡ t → Refused n ≡ pairLine f farDevice (Number a) (Number v)
-    go true k = rw (far-second (outside maxId a) (outside maxCapacity v) k) (ap Refused (refused-same n 2 (rw k at e)))
+    go : (t : Bool) → outside maxCapacity v ≡ t → Refused n ≡ pairLine f deviceOutside (Number a) (Number v)
+    go true k = rw (outside-second (outside maxId a) (outside maxCapacity v) k) (ap Refused (refused-same n 2 (rw k at e)))
     go false k = absurd (refused-known n v (rw k at e))
 
 pub pair-refused : (f : ℕ → ℕ → LineAnswer) (p q : Parsed) (a : ℕ) → p ≡ Number a → (s : CapacityAnswer) → s ≡ capacityAnswer q
-    → (n : ℕ) → s ≡ Capacity.Refused n → (m : ℕ) → m ≡ capacityReply s .number → Refused m ≡ pairLine f farDevice p q
+    → (n : ℕ) → s ≡ Capacity.Refused n → (m : ℕ) → m ≡ capacityReply s .number → Refused m ≡ pairLine f deviceOutside p q
 pair-refused f p q a k s e n t m o = rw (k, o, t) (capacity-refused f a n q (sym t ∙ e))
 
 pub capacity-known : (v : ℕ) (q : Parsed) → Capacity.Thousandths v ≡ capacityAnswer q → (q ≡ Number v) × (outside maxCapacity v ≡ false)
@@ -126,10 +126,10 @@ resized (Remove d) = Refused 1
 resized (Resize d c) = Refused 1
 resized (Refused n) = Refused n
 
-pub resized-add : (p q : Parsed) → resized (pairLine Add farDevice p q) ≡ pairLine Resize farDevice p q
+pub resized-add : (p q : Parsed) → resized (pairLine Add deviceOutside p q) ≡ pairLine Resize deviceOutside p q
 resized-add Shapeless q = refl
 resized-add (Number a) Shapeless = refl
-resized-add (Number a) (Number b) = go (farDevice a b)
+resized-add (Number a) (Number b) = go (deviceOutside a b)
   where
     go : (t : Bool) → resized (cond t (Refused 2) (Add a b)) ≡ cond t (Refused 2) (Resize a b)
     go true = refl
@@ -150,24 +150,24 @@ module _ (p : Parsed) where
   remove-none k = rw k
 
   module _ (d : ℕ) (k : p ≡ Number d) where
-    pub remove-far : outside maxId d ≡ true → Refused 2 ≡ removeLine p
-    remove-far h = rw (k, h)
+    pub remove-outside : outside maxId d ≡ true → Refused 2 ≡ removeLine p
+    remove-outside h = rw (k, h)
 
-    pub remove-near : outside maxId d ≡ false → Remove d ≡ removeLine p
-    remove-near h = rw (k, h)
+    pub remove-inside : outside maxId d ≡ false → Remove d ≡ removeLine p
+    remove-inside h = rw (k, h)
 
 -- ---- words
 
 module _ (k a b : List ℕ) where
-  pub three-range : same k rangeWord ≡ true → pairLine Range farRange (numberIn a) (numberIn b) ≡ threeWords k a b
+  pub three-range : same k rangeWord ≡ true → pairLine Range rangeOutside (numberIn a) (numberIn b) ≡ threeWords k a b
   three-range h = rw h
 
   module _ (e : same k rangeWord ≡ false) where
-    pub three-add : same k addWord ≡ true → pairLine Add farDevice (numberIn a) (capacityIn b) ≡ threeWords k a b
+    pub three-add : same k addWord ≡ true → pairLine Add deviceOutside (numberIn a) (capacityIn b) ≡ threeWords k a b
     three-add h = rw (e, h)
 
     module _ (f : same k addWord ≡ false) where
-      pub three-resize : same k resizeWord ≡ true → pairLine Resize farDevice (numberIn a) (capacityIn b) ≡ threeWords k a b
+      pub three-resize : same k resizeWord ≡ true → pairLine Resize deviceOutside (numberIn a) (capacityIn b) ≡ threeWords k a b
       three-resize h = rw (e, f, h)
 
       pub three-other : same k resizeWord ≡ false → Refused 1 ≡ threeWords k a b

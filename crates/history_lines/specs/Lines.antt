@@ -77,26 +77,28 @@ same (x ∷ xs) (y ∷ ys) = let r = same xs ys in eqb x y && r
 
 -- '1: not one of the four shapes', then '2: a number outside its limits': two words whose shapes and limits are judged together
 abbrev pub pairLine : (ℕ → ℕ → LineAnswer) → (ℕ → ℕ → Bool) → Parsed → Parsed → LineAnswer
-pairLine f far Shapeless q = Refused 1
-pairLine f far (Number a) Shapeless = Refused 1
-pairLine f far (Number a) (Number b) = cond (far a b) (Refused 2) (f a b)
+pairLine f out Shapeless q = Refused 1
+pairLine f out (Number a) Shapeless = Refused 1
+pairLine f out (Number a) (Number b) = cond (out a b) (Refused 2) (f a b)
 
 abbrev pub removeLine : Parsed → LineAnswer
 removeLine Shapeless = Refused 1
 removeLine (Number d) = cond (outside maxId d) (Refused 2) (Remove d)
 
-abbrev pub farRange : ℕ → ℕ → Bool
-farRange R M = outside maxRange R || outside maxLimit M
+-- a range line's numbers, one of them outside its limits
+abbrev pub rangeOutside : ℕ → ℕ → Bool
+rangeOutside R M = outside maxRange R || outside maxLimit M
 
-abbrev pub farDevice : ℕ → ℕ → Bool
-farDevice d c = outside maxId d || outside maxCapacity c
+-- a device's id and capacity, one of them outside its limits
+abbrev pub deviceOutside : ℕ → ℕ → Bool
+deviceOutside d c = outside maxId d || outside maxCapacity c
 
 -- 'They are `range R M`, `add ID CAPACITY`, `remove ID`, `resize ID CAPACITY`: lower case, one space between words, nothing else.'
 abbrev pub threeWords : List ℕ → List ℕ → List ℕ → LineAnswer
 threeWords k a b =
-    cond (same k rangeWord) (pairLine Range farRange (numberIn a) (numberIn b))
-    (cond (same k addWord) (pairLine Add farDevice (numberIn a) (capacityIn b))
-    (cond (same k resizeWord) (pairLine Resize farDevice (numberIn a) (capacityIn b))
+    cond (same k rangeWord) (pairLine Range rangeOutside (numberIn a) (numberIn b))
+    (cond (same k addWord) (pairLine Add deviceOutside (numberIn a) (capacityIn b))
+    (cond (same k resizeWord) (pairLine Resize deviceOutside (numberIn a) (capacityIn b))
     (Refused 1)))
 
 abbrev pub lineOf : List (List ℕ) → LineAnswer

@@ -9,7 +9,7 @@ ghost use Prim.Native.Nat.{_≤_};
 ghost use lib.ListN.{length};
 ghost use Rattle.slicing.specs.Limits as Limits;
 ghost use Rattle.history_lines.specs.Lines as Lines;
-ghost use Rattle.history_lines.specs.Lines.{capacityReply, pairLine, removeLine, farRange, farDevice, threeWords, LineRead};
+ghost use Rattle.history_lines.specs.Lines.{capacityReply, pairLine, removeLine, rangeOutside, deviceOutside, threeWords, LineRead};
 ghost use Rattle.history_lines.specs.Cuts.{partAt};
 ghost use Rattle.history_lines.specs.Text.{numberIn, capacityIn};
 ghost use Rattle.history_lines.specs.declared.lines.LineAnswer.the-variants.{Range, Add, Resize};
@@ -54,7 +54,7 @@ fn outside(most: u64, x: u64) -> bool
 }
 
 fn range_line(first: &[u8], second: &[u8]) -> LineAnswer
-    ensures { λ r. ⌜ r ≡ pairLine Range farRange (numberIn (now (first .entry))) (numberIn (now (second .entry))) ⌝ }
+    ensures { λ r. ⌜ r ≡ pairLine Range rangeOutside (numberIn (now (first .entry))) (numberIn (now (second .entry))) ⌝ }
 {
     let Parsed::Number(range) = number(first) else {
         return LineAnswer::Refused(1);
@@ -83,7 +83,7 @@ fn refusal_of(answer: CapacityAnswer) -> u32
 
 // An id and a capacity, as of an added device.
 fn add_line(first: &[u8], second: &[u8]) -> LineAnswer
-    ensures { λ r. ⌜ r ≡ pairLine Add farDevice (numberIn (now (first .entry))) (capacityIn (now (second .entry))) ⌝ }
+    ensures { λ r. ⌜ r ≡ pairLine Add deviceOutside (numberIn (now (first .entry))) (capacityIn (now (second .entry))) ⌝ }
 {
     let Parsed::Number(id) = number(first) else {
         return LineAnswer::Refused(1);
@@ -99,7 +99,7 @@ fn add_line(first: &[u8], second: &[u8]) -> LineAnswer
 }
 
 fn resize_line(first: &[u8], second: &[u8]) -> LineAnswer
-    ensures { λ r. ⌜ r ≡ pairLine Resize farDevice (numberIn (now (first .entry))) (capacityIn (now (second .entry))) ⌝ }
+    ensures { λ r. ⌜ r ≡ pairLine Resize deviceOutside (numberIn (now (first .entry))) (capacityIn (now (second .entry))) ⌝ }
 {
     match add_line(first, second) {
         LineAnswer::Add(id, value) => LineAnswer::Resize(id, value),

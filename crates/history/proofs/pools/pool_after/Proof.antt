@@ -4,9 +4,9 @@ use Prim.Native.Nat.{_-_}
 use native.Mathlib.Omega.{arith}
 use lib.ListN.{length}
 use borrow.Author.Needs.{needs}
+use Rattle.history_lines.proofs.TextParts.{part-above}
 use Rattle.history.proofs.AppliedLines.{said-refused}
 use Rattle.history.proofs.PoolsLeft.{Leaving, leaving-none, leaving-step, left-long, left-whole}
-use Rattle.history_lines.proofs.TextParts.{part-above}
 use Rattle.history.proofs.pools.pool_after.Statement.{statement}
 use Rattle.history.proofs.pools.pool_after.Tie as tie
 

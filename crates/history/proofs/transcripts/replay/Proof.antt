@@ -6,9 +6,9 @@ use Prim.Native.Nat.{_-_}
 use native.Mathlib.Omega.{arith}
 use lib.ListN.{length}
 use borrow.Author.Needs.{needs}
+use Rattle.history_lines.proofs.TextParts.{part-above}
 use Rattle.history.proofs.AppliedLines.{said-refused}
 use Rattle.history.proofs.Replaying.{Replaying, replaying-none, replaying-room, replaying-step, replaying-table, replaying-end}
-use Rattle.history_lines.proofs.TextParts.{part-above}
 use Rattle.history.proofs.transcripts.replay.Statement.{statement}
 use Rattle.history.proofs.transcripts.replay.Tie as tie
 

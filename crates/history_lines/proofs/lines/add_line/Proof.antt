@@ -3,12 +3,12 @@ use mathlib.Core.Path.{_≡_, sym, _∙_}
 use mathlib.Core.Bool.{false}
 use borrow.Author.Needs.{needs}
 use Rattle.slicing.specs.Limits.{maxId, maxCapacity, outside}
-use Rattle.history_lines.specs.Lines.{farDevice}
+use Rattle.history_lines.specs.Lines.{deviceOutside}
 use Rattle.history_lines.specs.Text.{numberIn, capacityIn}
 use Rattle.history_lines.specs.declared.lines.LineAnswer.the-variants.{Add}
 use Rattle.history_lines.specs.declared.numbers.Parsed.{Parsed}
 use Rattle.history_lines.specs.declared.numbers.Parsed.the-variants.{Number}
-use Rattle.history_lines.proofs.LineShapes.{pair-first, pair-far, pair-near, far-first, far-none, pair-refused, capacity-known}
+use Rattle.history_lines.proofs.LineShapes.{pair-first, pair-outside, pair-inside, outside-first, outside-none, pair-refused, capacity-known}
 use Rattle.history_lines.proofs.lines.add_line.Statement.{statement}
 use Rattle.history_lines.proofs.lines.add_line.Tie as tie
 
@@ -33,14 +33,14 @@ returns-4 : tie.Need-returns-4
 returns-4 c =
     let o = c .before in
     let u = o .before .before in
-    pair-near Add farDevice _ _ _ (id-is (named u)) _ (value-is u .0)
-    (far-none (outside maxId (named u .id .given .0 .0)) (outside maxCapacity (u .answer .given .0 .0)) (sym (o .outside .ensures) ∙ c .if1 .left)
+    pair-inside Add deviceOutside _ _ _ (id-is (named u)) _ (value-is u .0)
+    (outside-none (outside maxId (named u .id .given .0 .0)) (outside maxCapacity (u .answer .given .0 .0)) (sym (o .outside .ensures) ∙ c .if1 .left)
     (value-is u .1))
 
 returns : tie.Need-returns
 returns c =
     let n = c .before .before in
-    pair-first Add farDevice (first n) (second n) (sym (n .number .ensures .0) ∙ c .enum-told .given .1)
+    pair-first Add deviceOutside (first n) (second n) (sym (n .number .ensures .0) ∙ c .enum-told .given .1)
 
 returns-2 : tie.Need-returns-2
 returns-2 c =
@@ -54,8 +54,8 @@ returns-3 : tie.Need-returns-3
 returns-3 c =
     let o = c .before in
     let u = o .before .before in
-    pair-far Add farDevice _ _ _ (id-is (named u)) _ (value-is u .0)
-    (far-first (outside maxId (named u .id .given .0 .0)) (outside maxCapacity (u .answer .given .0 .0)) (sym (o .outside .ensures) ∙ c .if1 .taken))
+    pair-outside Add deviceOutside _ _ _ (id-is (named u)) _ (value-is u .0)
+    (outside-first (outside maxId (named u .id .given .0 .0)) (outside maxCapacity (u .answer .given .0 .0)) (sym (o .outside .ensures) ∙ c .if1 .taken))
 
 pub add-line-spec : {M : Type 1} → statement M
 add-line-spec =

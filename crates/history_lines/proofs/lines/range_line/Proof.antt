@@ -2,12 +2,12 @@
 use mathlib.Core.Path.{_≡_, sym, _∙_}
 use borrow.Author.Needs.{needs}
 use Rattle.slicing.specs.Limits.{maxRange, maxLimit, outside}
-use Rattle.history_lines.specs.Lines.{farRange}
+use Rattle.history_lines.specs.Lines.{rangeOutside}
 use Rattle.history_lines.specs.Text.{numberIn}
 use Rattle.history_lines.specs.declared.lines.LineAnswer.the-variants.{Range}
 use Rattle.history_lines.specs.declared.numbers.Parsed.{Parsed}
 use Rattle.history_lines.specs.declared.numbers.Parsed.the-variants.{Number}
-use Rattle.history_lines.proofs.LineShapes.{pair-first, pair-second, pair-far, pair-near, far-first, far-second, far-none}
+use Rattle.history_lines.proofs.LineShapes.{pair-first, pair-second, pair-outside, pair-inside, outside-first, outside-second, outside-none}
 use Rattle.history_lines.proofs.lines.range_line.Statement.{statement}
 use Rattle.history_lines.proofs.lines.range_line.Tie as tie
 
@@ -31,34 +31,34 @@ returns-5 c =
     let k = c .before in
     let o = k .before .before in
     let u = o .before .before in
-    pair-near Range farRange _ _ _ (range-is (ranged u)) _ (limit-is u)
-    (far-none (outside maxRange (ranged u .range .given .0 .0)) (outside maxLimit (u .limit .given .0 .0)) (sym (o .outside .ensures) ∙ k .before .if1 .left)
+    pair-inside Range rangeOutside _ _ _ (range-is (ranged u)) _ (limit-is u)
+    (outside-none (outside maxRange (ranged u .range .given .0 .0)) (outside maxLimit (u .limit .given .0 .0)) (sym (o .outside .ensures) ∙ k .before .if1 .left)
     (sym (k .outside2 .ensures) ∙ c .if2 .left))
 
 returns : tie.Need-returns
 returns c =
     let n = c .before .before in
-    pair-first Range farRange (first n) (second n) (sym (n .number .ensures .0) ∙ c .enum-told .given .1)
+    pair-first Range rangeOutside (first n) (second n) (sym (n .number .ensures .0) ∙ c .enum-told .given .1)
 
 returns-2 : tie.Need-returns-2
 returns-2 c =
     let m = c .before .before in
     let v = m .before .before in
-    pair-second Range farRange _ (second (v .before .before)) _ (range-is v) (sym (m .number2 .ensures .0) ∙ c .enum-told2 .given .1)
+    pair-second Range rangeOutside _ (second (v .before .before)) _ (range-is v) (sym (m .number2 .ensures .0) ∙ c .enum-told2 .given .1)
 
 returns-3 : tie.Need-returns-3
 returns-3 c =
     let o = c .before in
     let u = o .before .before in
-    pair-far Range farRange _ _ _ (range-is (ranged u)) _ (limit-is u)
-    (far-first (outside maxRange (ranged u .range .given .0 .0)) (outside maxLimit (u .limit .given .0 .0)) (sym (o .outside .ensures) ∙ c .if1 .taken))
+    pair-outside Range rangeOutside _ _ _ (range-is (ranged u)) _ (limit-is u)
+    (outside-first (outside maxRange (ranged u .range .given .0 .0)) (outside maxLimit (u .limit .given .0 .0)) (sym (o .outside .ensures) ∙ c .if1 .taken))
 
 returns-4 : tie.Need-returns-4
 returns-4 c =
     let k = c .before in
     let u = k .before .before .before .before in
-    pair-far Range farRange _ _ _ (range-is (ranged u)) _ (limit-is u)
-    (far-second (outside maxRange (ranged u .range .given .0 .0)) (outside maxLimit (u .limit .given .0 .0)) (sym (k .outside2 .ensures) ∙ c .if2 .taken))
+    pair-outside Range rangeOutside _ _ _ (range-is (ranged u)) _ (limit-is u)
+    (outside-second (outside maxRange (ranged u .range .given .0 .0)) (outside maxLimit (u .limit .given .0 .0)) (sym (k .outside2 .ensures) ∙ c .if2 .taken))
 
 pub range-line-spec : {M : Type 1} → statement M
 range-line-spec =

@@ -1,7 +1,7 @@
 -- `history_lines::lines::remove_line` meets its contract: the shape first, then the limit.
 use mathlib.Core.Path.{sym, _∙_}
 use Rattle.history_lines.specs.Text.{numberIn}
-use Rattle.history_lines.proofs.LineShapes.{remove-none, remove-far, remove-near}
+use Rattle.history_lines.proofs.LineShapes.{remove-none, remove-outside, remove-inside}
 use borrow.Author.Needs.{needs}
 use Rattle.history_lines.proofs.lines.remove_line.Statement.{statement}
 use Rattle.history_lines.proofs.lines.remove_line.Tie as tie
@@ -11,7 +11,7 @@ returns-3 c =
     let o = c .before in
     let v = o .before .before in
     let n = v .before .before in
-    remove-near (numberIn (n .before .before .args .word .now)) (v .id .given .0 .0) (sym (n .number .ensures .0) ∙ v .id .given .1)
+    remove-inside (numberIn (n .before .before .args .word .now)) (v .id .given .0 .0) (sym (n .number .ensures .0) ∙ v .id .given .1)
     (sym (o .outside .ensures) ∙ c .if1 .left)
 
 returns : tie.Need-returns
@@ -24,7 +24,7 @@ returns-2 c =
     let o = c .before in
     let v = o .before .before in
     let n = v .before .before in
-    remove-far (numberIn (n .before .before .args .word .now)) (v .id .given .0 .0) (sym (n .number .ensures .0) ∙ v .id .given .1)
+    remove-outside (numberIn (n .before .before .args .word .now)) (v .id .given .0 .0) (sym (n .number .ensures .0) ∙ v .id .given .1)
     (sym (o .outside .ensures) ∙ c .if1 .taken)
 
 pub remove-line-spec : {M : Type 1} → statement M
