@@ -3,7 +3,6 @@
 -- owned: owned-row (of rows whose ids rise, each alone has its id)
 -- shareOf: shareOf-row (the share in a row)
 -- rows: below-rows (the lengths of intervals within the range)
--- capacities: below-capacities, some-capacities (what `shares` asks)
 -- Covered: decides-held (the last of its parts)
 use mathlib.Core.Path.{_≡_, refl, sym, ap, _∙_}
 use mathlib.Core.Bool.{Bool}
@@ -14,17 +13,14 @@ use native.Mathlib.Nat.{eq-or-lt-of-le}
 use native.Mathlib.Omega.{arith}
 use lib.Dec.{eqb}
 use borrow.Author.Tests.{eq-eqb, ne-eqb}
-use Rattle.slicing.specs.Devices.{ids, capacities, Rising}
-use Rattle.slicing.specs.LargestRemainder.{largestRemainder}
+use Rattle.slicing.specs.Devices.{Rising}
 use Rattle.slicing.specs.Runs.{one, total, owned, Coalesced}
 use Rattle.slicing.specs.ShareRule.{shares, shareOf}
-use Rattle.slicing.proofs.Devices.{rising-capacities}
 use Rattle.slicing_core.specs.Rows.{at, rows, deviceRows, tableRows}
 use Rattle.slicing_core.specs.Stages.{Below, Ascending, Decides}
-use Rattle.slicing_core.proofs.DeviceRows.{ascending-rising, below-rising, capacities-rising}
+use Rattle.slicing_core.proofs.DeviceRows.{ascending-rising, below-rising}
 use Rattle.placement.specs.Pools.{Covered}
 use Rattle.placement.proofs.Deciding.{decides-iff}
-use Rattle.slicing_core.proofs.Rows.{length-deviceRows}
 
 owned-none : (d : ℕ) (s ids : List ℕ) (i n : ℕ) → ((j : ℕ) → i ≤ j → j < i + n → d ≡ at ids j → ⊥) → owned d (rows s ids i n) ≡ 0
 owned-none d s ids i zero h = refl
@@ -48,9 +44,8 @@ owned-from s ids m i (suc n) j a b l h = go (eq-or-lt-of-le l) (λ k. owned-from
 pub owned-row : (s ids : List ℕ) (n i : ℕ) → Ascending ids n → i < n → owned (at ids i) (rows s ids 0 n) ≡ at s i
 owned-row s ids n i a h = owned-from s ids n 0 n i a (omega arith) (omega arith) (omega arith)
 
-pub shareOf-row : (R : ℕ) (d c due : List ℕ) (n i : ℕ) → rows due d 0 n ≡ largestRemainder R (deviceRows d c 0 n) → Ascending d n → i < n
+pub shareOf-row : (R : ℕ) (d c due : List ℕ) (n i : ℕ) → rows due d 0 n ≡ shares R (deviceRows d c 0 n) → Ascending d n → i < n
     → at due i ≡ shareOf R (deviceRows d c 0 n) (at d i)
-unfolding shares
 shareOf-row R d c due n i e a h = sym (owned-row due d n i a h) ∙ ap (owned (at d i)) e
 
 rows-most : (k : ℕ) (xs p o : List ℕ) (R i n : ℕ) → rows xs o i n ≡ tableRows p o R i n → R ≤ k → ((j : ℕ) → j < i + n → at p j < k)
@@ -74,24 +69,18 @@ pub below-rows : (xs p o : List ℕ) (R q : ℕ) → rows xs o 0 q ≡ tableRows
 below-rows xs p o R q e r b j h =
     omega (arith, rows-most (2 ^ 32) xs p o R 0 q e r (λ t u. b t (omega arith)) j (omega arith) (omega arith))
 
-module _ (d c : List ℕ) (n : ℕ) (r : Rising 0 (deviceRows d c 0 n)) where
-  pub below-capacities : Below 16000001 c n
-  below-capacities i l = omega (arith, capacities-rising d c n r i l)
+module _ (d c : List ℕ) (n : ℕ) (r : Rising 0 (deviceRows d c 0 n)) (R q : ℕ) (p o lengths points due : List ℕ)
+    (t : rows lengths o 0 q ≡ tableRows p o R 0 q)
+    (has : (x : ℕ) → x < 65536 → at points x ≡ owned x (rows lengths o 0 q)) (e : rows due d 0 n ≡ shares R (deviceRows d c 0 n)) where
+  has-row : (i : ℕ) → i < n → at points (at d i) ≡ owned (at d i) (tableRows p o R 0 q)
+  has-row i l = has (at d i) (below-rising d c n r i l) ∙ ap (owned (at d i)) t
 
-  pub some-capacities : 1 ≤ n → 1 ≤ capacities (deviceRows d c 0 n)
-  some-capacities l = omega (arith, rising-capacities 0 (deviceRows d c 0 n) r, length-deviceRows d c 0 n)
+  due-row : (i : ℕ) → i < n → at due i ≡ shareOf R (deviceRows d c 0 n) (at d i)
+  due-row i l = shareOf-row R d c due n i e (ascending-rising d c n r) l
 
-  module _ (R q : ℕ) (p o lengths points due : List ℕ) (t : rows lengths o 0 q ≡ tableRows p o R 0 q)
-      (has : (x : ℕ) → x < 65536 → at points x ≡ owned x (rows lengths o 0 q)) (e : rows due d 0 n ≡ largestRemainder R (deviceRows d c 0 n)) where
-    has-row : (i : ℕ) → i < n → at points (at d i) ≡ owned (at d i) (tableRows p o R 0 q)
-    has-row i l = has (at d i) (below-rising d c n r i l) ∙ ap (owned (at d i)) t
-
-    due-row : (i : ℕ) → i < n → at due i ≡ shareOf R (deviceRows d c 0 n) (at d i)
-    due-row i l = shareOf-row R d c due n i e (ascending-rising d c n r) l
-
-    pub decides-held : Coalesced eqb (rows lengths o 0 q) → total (rows lengths o 0 q) ≡ R → (b : Bool)
-        → Decides b ((i : ℕ) → i < n → at points (at d i) ≡ at due i) → Decides b (Covered R d c n p o q)
-    decides-held k s b =
-        decides-iff {P = (i : ℕ) → i < n → at points (at d i) ≡ at due i} {Q = Covered R d c n p o q} b
-        (λ h. record { coalesced = rw t at k; covers = rw t at s; held = λ i l. sym (has-row i l) ∙ h i l ∙ due-row i l })
-        (λ h i l. has-row i l ∙ h .held i l ∙ sym (due-row i l))
+  pub decides-held : Coalesced eqb (rows lengths o 0 q) → total (rows lengths o 0 q) ≡ R → (b : Bool)
+      → Decides b ((i : ℕ) → i < n → at points (at d i) ≡ at due i) → Decides b (Covered R d c n p o q)
+  decides-held k s b =
+      decides-iff {P = (i : ℕ) → i < n → at points (at d i) ≡ at due i} {Q = Covered R d c n p o q} b
+      (λ h. record { coalesced = rw t at k; covers = rw t at s; held = λ i l. sym (has-row i l) ∙ h i l ∙ due-row i l })
+      (λ h i l. has-row i l ∙ h .held i l ∙ sym (due-row i l))

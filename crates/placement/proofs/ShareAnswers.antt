@@ -8,9 +8,9 @@ use mathlib.Core.Bool.{Bool, true, false, cond}
 use mathlib.Core.List.{List}
 use Prim.Native.Nat.{ℕ, _<_}
 use Rattle.slicing.specs.Devices.{present}
-use Rattle.slicing.specs.LargestRemainder.{largestRemainder}
 use Rattle.slicing.specs.Limits.{maxId, outside}
 use Rattle.slicing.specs.Replies.{replied, declined}
+use Rattle.slicing.specs.ShareRule.{shares}
 use Rattle.slicing_core.specs.Rows.{at, rows, deviceRows}
 use Rattle.slicing_core.proofs.DeviceRows.{position-present}
 use Rattle.placement.specs.Pools.{stateOf, ValidPool}
@@ -49,7 +49,7 @@ module _ {p : Pool} {id : ℕ} where
     shared-five a = shared-answer (Refused 5) (λ h. rw (v .1, a)) (λ h. absurd (h (v .0)))
 
     pub shared-present : {d c : List ℕ} (due : List ℕ) (row : ℕ) → Opened p d c → (row < p .devices) × (at d row ≡ id)
-        → rows due d 0 (p .devices) ≡ largestRemainder (p .range) (deviceRows d c 0 (p .devices)) → Shared p id (Share (at due row))
+        → rows due d 0 (p .devices) ≡ shares (p .range) (deviceRows d c 0 (p .devices)) → Shared p id (Share (at due row))
     unfolding stateOf
     shared-present {d} {c} due row o l s =
         let here = position-present d c (p .devices) id row (l .0) (l .1) in

@@ -13,7 +13,6 @@ use lib.Dec.{eqb, ltb}
 use lib.ListN.{length, List·getD-eq-default}
 use borrow.Author.Tests.{eqb-true, eqb-false, ne-eqb, ltb-true, ltb-false}
 use Rattle.slicing.specs.Devices.{Rising}
-use Rattle.slicing.specs.LargestRemainder.{largestRemainder}
 use Rattle.slicing.specs.Runs.{Run, _of_, total, owned, relabel, push, coalesce, Coalesced}
 use Rattle.slicing.specs.ShareRule.{shares}
 use Rattle.slicing.specs.SixSteps.{release, needs, end, walk, fill, turns}
@@ -145,7 +144,7 @@ module _ (pool : Pool) (v : ValidPool pool) (h : 1 ≤ pool .devices) where
 
     module _ (ids capacities : List ℕ) (n : ℕ) (r : Rising 0 (deviceRows ids capacities 0 n)) (m : 1 ≤ n) (points due : List ℕ)
         (l : length points ≡ 65536) (p : (d : ℕ) → d < 65536 → at points d ≡ owned d (rows lengths owners 0 (pool .intervals)))
-        (s : rows due ids 0 n ≡ largestRemainder (pool .range) (deviceRows ids capacities 0 n)) (left needed : List ℕ)
+        (s : rows due ids 0 n ≡ shares (pool .range) (deviceRows ids capacities 0 n)) (left needed : List ℕ)
         (q : Quotas points ids due n left needed) where
       abbrev has : List (Run ℕ)
       has = shares (pool .range) (stateOf pool .devices)
@@ -157,17 +156,13 @@ module _ (pool : Pool) (v : ValidPool pool) (h : 1 ≤ pool .devices) where
       unfolding stateOf
       fair = balanced (stateOf pool) (v .valid) some (deviceRows ids capacities 0 n) r (omega (arith, length-deviceRows ids capacities 0 n))
 
-      share-rows : rows due ids 0 n ≡ dues
-      unfolding shares
-      share-rows = s
-
       all-points : (d : ℕ) → at points d ≡ owned d (stateOf pool .table)
       all-points d = by-owner-all lengths owners points (pool .intervals) owners-below l p d ∙ ap (owned d) table-rows
 
       pub takens-of : total (takens (walk (at left) end false (rows lengths owners 0 (pool .intervals)))) ≤ total (rows needed ids 0 n)
       takens-of =
-          rw table-rows (takens-rows (stateOf pool .table) has dues fair points ids due left needed n all-points share-rows q)
+          rw table-rows (takens-rows (stateOf pool .table) has dues fair points ids due left needed n all-points s q)
 
       pub turns-of : fill (walk (at left) end false (rows lengths owners 0 (pool .intervals))) (rows needed ids 0 n) ≡ turns (stateOf pool .table) has dues
       turns-of =
-          rw table-rows (turns-rows (stateOf pool .table) has dues fair points ids due left needed n all-points share-rows q)
+          rw table-rows (turns-rows (stateOf pool .table) has dues fair points ids due left needed n all-points s q)

@@ -2,7 +2,6 @@ pub mod Rows
 pub mod Fills
 pub mod Shifts
 pub mod DeviceRows
-pub mod ShareRows
 pub mod OwnerRows
 pub mod QuotaRows
 pub mod Cutting

@@ -9,19 +9,16 @@
 --   Pushed s l n k x ..     a run of k points with x was put behind n runs, joined to the last where that has x
 --   Filled s l needs ..     a gap was filled from the needs
 --   Position, Inserted, Deleted   rows of devices by rising id
---   Remainders, rank        the parts of a share
 --   Quotas                  what each device must release and needs
 use mathlib.Core.Path.{_≡_}
-use mathlib.Core.Bool.{Bool, true, false, _&&_, _||_}
+use mathlib.Core.Bool.{Bool, true, false}
 use mathlib.Core.List.{List, _++_}
-use Prim.Native.Nat.{ℕ, zero, suc, _+_, _*_, _-_, _/_, _%_, _≤_, _<_, min}
-use lib.Dec.{eqb, ltb}
+use Prim.Native.Nat.{ℕ, _+_, _*_, _-_, _≤_, _<_, min}
+use lib.Dec.{eqb}
 use lib.ListN.{length, replicate}
-use Rattle.slicing.specs.Devices.{capacities as sumOf}
-use Rattle.slicing.specs.LargestRemainder as Rule
-use Rattle.slicing.specs.Runs.{one, owned, expand, takePoints, dropPoints, relabel, Coalesced}
+use Rattle.slicing.specs.Runs.{owned, expand, takePoints, dropPoints, relabel, Coalesced}
 use Rattle.slicing.specs.SixSteps.{Side, start, end, cut}
-use Rattle.slicing_core.specs.Rows.{at, rows, deviceRows}
+use Rattle.slicing_core.specs.Rows.{at, rows}
 use Rattle.slicing_core.specs.declared.cuts.Cut.{Cut}
 
 -- the runs that the scratch arrays hold: two for each interval, and one for each device
@@ -95,20 +92,6 @@ pub record Deleted (xs : List ℕ) (p : ℕ) (r : List ℕ) : Type 0 where
   pub before : (i : ℕ) → i < p → at r i ≡ at xs i
   pub after : (i : ℕ) → p ≤ i → i + 1 < 256 → at r i ≡ at xs (i + 1)
   pub last : at r 255 ≡ 0
-
--- what stands in the arrays of a division: the floors, the remainders, and the points left over
-pub record Remainders (R : ℕ) (ids capacities : List ℕ) (n : ℕ) (floors remainders : List ℕ) (leftover : ℕ) : Type 0 where
-  pub floorsSize : length floors ≡ 256
-  pub remaindersSize : length remainders ≡ 256
-  pub floored : (i : ℕ) → i < n → at floors i ≡ R * at capacities i / sumOf (deviceRows ids capacities 0 n)
-  pub remained : (i : ℕ) → i < n → at remainders i ≡ R * at capacities i % sumOf (deviceRows ids capacities 0 n)
-  pub left : leftover ≡ Rule.leftover R (sumOf (deviceRows ids capacities 0 n)) (deviceRows ids capacities 0 n)
-
--- how many of the n rows from i on go before row p: a larger remainder, or an equal one and a lower id
-abbrev pub rank : List ℕ → List ℕ → ℕ → ℕ → ℕ → ℕ
-rank rems ids p i zero = 0
-rank rems ids p i (suc n) =
-    one (ltb (at rems p) (at rems i) || (eqb (at rems p) (at rems i) && ltb (at ids i) (at ids p))) + rank rems ids p (suc i) n
 
 -- what each device must release, by id, and what it needs
 pub record Quotas (points ids due : List ℕ) (n : ℕ) (left needs : List ℕ) : Type 0 where

@@ -6,6 +6,5 @@ pub mod moves;
 pub mod owned;
 pub mod quotas;
 pub mod runs;
-pub mod shares;
 pub mod table;
 pub mod walk;

@@ -6,7 +6,6 @@ use borrow.Author.Needs.{needs}
 use borrow.Author.Tests.{not-true, not-false}
 use Rattle.slicing.specs.Limits.{maxId, outside}
 use Rattle.placement.specs.Pools.{ValidPool}
-use Rattle.placement.proofs.HeldRows.{below-capacities, some-capacities}
 use Rattle.placement.proofs.OpenedPools.{opened-rising, row-below}
 use Rattle.placement.proofs.ShareAnswers.{shared-two, shared-five, shared-present}
 use Rattle.placement.proofs.ValidParts.{valid-limited}
@@ -35,10 +34,7 @@ shares-requires c κs =
     let o = h .before .before .opened in
     let p = h .before .before .before .before .before .args .pool in
     let limits = valid-limited p (o .ensures .rows .valid) in
-    let rises = opened-rising (o .ensures .rows) in (
-      (limits .few, limits .most, below-capacities (o .result .ids) (o .result .capacities) (p .devices) rises),
-      some-capacities (o .result .ids) (o .result .capacities) (p .devices) rises (omega (arith, o .ensures .found (there h) .0)),
-    )
+    (omega (arith, o .ensures .found (there h) .0), limits .few, limits .most, opened-rising (o .ensures .rows))
 
 array-read-due : tie.Need-array-read-due
 array-read-due c = row-below (c .before .before .before .before .before .before .before .opened .ensures) (there (c .before .before .before .before .before))

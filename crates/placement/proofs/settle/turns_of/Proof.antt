@@ -4,10 +4,7 @@ use native.Mathlib.Omega.{arith}
 use borrow.Author.Needs.{needs}
 use Rattle.slicing.specs.Runs.{coalesce}
 use Rattle.slicing.specs.SixSteps.{sameTurn}
-use Rattle.slicing.proofs.Devices.{rising-capacities}
-use Rattle.slicing_core.specs.Rows.{deviceRows}
-use Rattle.slicing_core.proofs.DeviceRows.{ascending-rising, below-rising, capacities-rising}
-use Rattle.slicing_core.proofs.Rows.{length-deviceRows}
+use Rattle.slicing_core.proofs.DeviceRows.{ascending-rising, below-rising}
 use Rattle.placement.proofs.Turning.{intervals-most, owners-below, total-range, takens-of, turns-of}
 use Rattle.placement.proofs.ValidParts.{valid-limited}
 use Rattle.placement.proofs.settle.turns_of.Statement.{statement}
@@ -39,12 +36,7 @@ by-owner-requires c κs =
 shares-requires : tie.Need-shares-requires
 shares-requires c κs =
     let s = start (c .before .before .before .before .before .before .before .before .before .before) in
-    let d = s .args .ids .now in
-    let k = s .args .capacities .now in
-    let r = s .pre .rising in (
-      (s .pre .most, valid-limited (s .args .pool) (s .pre .valid) .most, λ i l. omega (arith, capacities-rising d k (s .args .n) r i l)),
-      omega (arith, rising-capacities 0 (deviceRows d k 0 (s .args .n)) r, length-deviceRows d k 0 (s .args .n), s .pre .some),
-    )
+    (s .pre .some, s .pre .most, valid-limited (s .args .pool) (s .pre .valid) .most, s .pre .rising)
 
 quotas-requires : tie.Need-quotas-requires
 quotas-requires c κs =

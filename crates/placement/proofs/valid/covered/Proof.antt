@@ -4,7 +4,7 @@ use native.Mathlib.Omega.{arith}
 use borrow.Author.Needs.{needs}
 use borrow.Author.Tests.{not-true, not-false}
 use Rattle.slicing_core.proofs.DeviceRows.{below-rising}
-use Rattle.placement.proofs.HeldRows.{below-rows, below-capacities, some-capacities, decides-held}
+use Rattle.placement.proofs.HeldRows.{below-rows, decides-held}
 use Rattle.placement.proofs.valid.covered.Statement.{statement}
 use Rattle.placement.proofs.valid.covered.Tie as tie
 
@@ -31,10 +31,8 @@ by-owner-requires c κs =
 shares-requires : tie.Need-shares-requires
 shares-requires c κs =
     let start = c .before .before .before .before .before .before .before .before .before .before .before in
-    let pre = start .pre in (
-      (pre .0 .2, pre .0 .0, below-capacities (start .args .ids .now) (start .args .capacities .now) (start .args .n) (pre .1 .0)),
-      some-capacities (start .args .ids .now) (start .args .capacities .now) (start .args .n) (pre .1 .0) (pre .0 .1),
-    )
+    let pre = start .pre in
+    (pre .0 .1, pre .0 .2, pre .0 .0, pre .1 .0)
 
 hold-requires : tie.Need-hold-requires
 hold-requires c κs =

@@ -1,4 +1,4 @@
--- `slicing_core::shares::sum` meets its contract. The loop's invariant: the sum so far and the capacities of the rows left are all
+-- `shares::largest_remainder::sum` meets its contract. The loop's invariant: the sum so far and the capacities of the rows left are all
 -- capacities.
 use mathlib.Core.Path.{_≡_, ap}
 use Prim.Native.Nat.{_+_, _*_, _-_, _≤_}
@@ -6,14 +6,16 @@ use native.Mathlib.Nat.{zero-add, sub-zero}
 use native.Mathlib.Omega.{arith}
 use borrow.Author.Needs.{needs}
 use Rattle.slicing.specs.Devices.{capacities as capacitiesOf}
+use Rattle.slicing.specs.Limits.{maxCapacity}
 use Rattle.slicing_core.specs.Rows.{deviceRows}
 use Rattle.slicing_core.proofs.Rows.{deviceRows-step, deviceRows-end}
-use Rattle.slicing_core.proofs.shares.sum.Statement.{statement}
-use Rattle.slicing_core.proofs.shares.sum.Tie as tie
+use Rattle.shares.proofs.LargestRemainder.{capacity-most}
+use Rattle.shares.proofs.largest_remainder.sum.Statement.{statement}
+use Rattle.shares.proofs.largest_remainder.sum.Tie as tie
 
 abbrev Inv-loop : tie.InvT-loop
 Inv-loop capacities ids n c₀ i₀ c i =
-    (i ≤ n) × (c ≤ 16000000 * i) × (c + capacitiesOf (deviceRows ids capacities i (n - i)) ≡ capacitiesOf (deviceRows ids capacities 0 n))
+    (i ≤ n) × (c ≤ maxCapacity * i) × (c + capacitiesOf (deviceRows ids capacities i (n - i)) ≡ capacitiesOf (deviceRows ids capacities 0 n))
 
 abbrev μ-loop : tie.MeasureT-loop
 μ-loop capacities ids n c₀ i₀ c i = n - i
@@ -22,7 +24,12 @@ loop-holds : tie.Need-loop-holds Inv-loop μ-loop
 loop-holds c = (omega arith, omega arith, simp (zero-add, sub-zero))
 
 add-c : tie.Need-add-c Inv-loop μ-loop
-add-c c = omega (arith, c .before .before .before .pre .1 (c .before .before .loop .i) (c .before .loop-test .taken))
+add-c c =
+    let s = c .before .before .before in
+    omega (
+      arith,
+      capacity-most (s .args .ids .now) (s .args .capacities .now) (s .args .n) (s .pre .1) (c .before .before .loop .i) (c .before .loop-test .taken),
+    )
 
 loop-again : tie.Need-loop-again Inv-loop μ-loop
 loop-again c =
@@ -31,7 +38,7 @@ loop-again c =
     let l = c .before .loop-test .taken in
     omega (
       arith,
-      c .before .before .before .pre .1 i l,
+      capacity-most (args .ids .now) (args .capacities .now) (args .n) (c .before .before .before .pre .1) i l,
       ap capacitiesOf (deviceRows-step (args .ids .now) (args .capacities .now) i (args .n) l),
     )
 

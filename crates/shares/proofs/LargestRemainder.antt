@@ -1,23 +1,37 @@
--- The parts of a share on rows of devices.
+-- The parts of a share by largest remainder on rows of devices.
 --
+-- capacities: capacity-most, some-capacities
 -- rank: rank-step, rank-end (a loop over the rows), rank-rows (it is the rules')
 -- floors: product-most, floors-most, remainders-rows
 -- share: floor-most, share-more, share-same, rows-shares
 use mathlib.Core.Path.{_≡_, refl}
 use mathlib.Core.List.{List}
-use Prim.Native.Nat.{ℕ, zero, suc, _+_, _*_, _-_, _/_, _%_, _≤_, _<_, _^_}
+use Prim.Native.Nat.{ℕ, zero, suc, _+_, _*_, _-_, _/_, _%_, _≤_, _<_}
 use native.Mathlib.Nat.{mul-le-mul, div-le-self, le-trans}
 use native.Mathlib.Numerals.{add-one}
 use native.Mathlib.Omega.{arith}
 use borrow.Author.Tests.{lt-ltb, le-ltb}
-use Rattle.slicing.specs.Devices.{Device, device, capacities}
+use Rattle.slicing.specs.Devices.{Device, device, capacities, Rising}
 use Rattle.slicing.specs.LargestRemainder.{before, floors, share, sharesOf, largestRemainder}
 use Rattle.slicing.specs.LargestRemainder as Rule
+use Rattle.slicing.specs.Limits.{maxRange, maxCapacity}
 use Rattle.slicing.specs.Runs.{one}
+use Rattle.slicing.proofs.Devices.{rising-capacities}
 use Rattle.slicing.proofs.LargestRemainder.{lex, floors-le}
 use Rattle.slicing_core.specs.Rows.{at, rows, deviceRows}
-use Rattle.slicing_core.specs.Stages.{Remainders, rank}
+use Rattle.shares.specs.LargestRemainder.{Remainders, rank}
+use Rattle.slicing_core.proofs.DeviceRows.{within-rising}
 use Rattle.slicing_core.proofs.Fills.{Filling}
+use Rattle.slicing_core.proofs.Rows.{length-deviceRows}
+
+-- ---- capacities of devices within their limits
+
+module _ (ids caps : List ℕ) (n : ℕ) (r : Rising 0 (deviceRows ids caps 0 n)) where
+  pub capacity-most : (i : ℕ) → i < n → at caps i ≤ maxCapacity
+  capacity-most i l = within-rising ids caps n r i l .most
+
+  pub some-capacities : 1 ≤ n → 1 ≤ capacities (deviceRows ids caps 0 n)
+  some-capacities l = omega (arith, rising-capacities 0 (deviceRows ids caps 0 n) r, length-deviceRows ids caps 0 n)
 
 -- ---- the rank
 
@@ -36,10 +50,10 @@ rank-rows R C ids caps rems p i zero e h = refl
 rank-rows R C ids caps rems p i (suc m) e h =
     rw (rank-rows R C ids caps rems p (suc i) m e (λ k l. h k (omega arith)), h i (omega arith), e)
 
--- ---- what each device gets first, of at most 2 ^ 32 points and by capacities of at most 16,000,000
+-- ---- what each device gets first, within the limits
 
-pub product-most : {R c : ℕ} → R ≤ 2 ^ 32 → c < 16000001 → R * c ≤ 2 ^ 32 * 16000000
-product-most h l = mul-le-mul {m₂ = 16000000} h (omega arith)
+pub product-most : {R c : ℕ} → R ≤ maxRange → c ≤ maxCapacity → R * c ≤ maxRange * maxCapacity
+product-most h l = mul-le-mul h l
 
 pub floors-most : (R C : ℕ) (ids caps : List ℕ) (n : ℕ) → C ≡ capacities (deviceRows ids caps 0 n) → 1 ≤ C → floors R C (deviceRows ids caps 0 n) ≤ R
 floors-most R C ids caps n e h = rw e (floors-le R (deviceRows ids caps 0 n) (omega arith))
@@ -58,7 +72,7 @@ remainders-rows e f r g = record {
 -- ---- the share of the device at place p
 
 module _ {R n left : ℕ} {ids caps fl rs : List ℕ} (d : Remainders R ids caps n fl rs left) (p : ℕ) (l : p < n) where
-  pub floor-most : R ≤ 2 ^ 32 → at caps p < 16000001 → at fl p ≤ 2 ^ 32 * 16000000
+  pub floor-most : R ≤ maxRange → at caps p ≤ maxCapacity → at fl p ≤ maxRange * maxCapacity
   floor-most h c = rw (d .floored p l) (le-trans (div-le-self (R * at caps p) (capacities (deviceRows ids caps 0 n))) (product-most h c))
 
   ranked : rank rs ids p 0 n ≡ Rule.rank (before R (capacities (deviceRows ids caps 0 n))) (deviceRows ids caps 0 n) (device (at ids p) (at caps p))

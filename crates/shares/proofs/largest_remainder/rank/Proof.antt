@@ -1,4 +1,4 @@
--- `slicing_core::shares::rank` meets its contract. The loop's invariant: those counted and the rank among the rows left are the rank.
+-- `shares::largest_remainder::rank` meets its contract. The loop's invariant: those counted and the rank among the rows left are the rank.
 use mathlib.Core.Path.{_≡_, ap}
 use mathlib.Core.Logic.{⊎-elim}
 use Prim.Native.Nat.{_+_, _-_, _≤_}
@@ -7,11 +7,11 @@ use native.Mathlib.Omega.{arith}
 use borrow.Author.Needs.{needs}
 use Rattle.slicing.specs.Runs.{one}
 use Rattle.slicing.proofs.LargestRemainder.{lex-more, lex-same, lex-not}
 use Rattle.slicing_core.specs.Rows.{at}
-use Rattle.slicing_core.specs.Stages.{rank as rankOf}
-use Rattle.slicing_core.proofs.ShareRows.{rank-step, rank-end}
-use Rattle.slicing_core.proofs.shares.rank.Statement.{statement}
-use Rattle.slicing_core.proofs.shares.rank.Tie as tie
+use Rattle.shares.specs.LargestRemainder.{rank as rankOf}
+use Rattle.shares.proofs.LargestRemainder.{rank-step, rank-end}
+use Rattle.shares.proofs.largest_remainder.rank.Statement.{statement}
+use Rattle.shares.proofs.largest_remainder.rank.Tie as tie
 
 abbrev Inv-loop : tie.InvT-loop
 Inv-loop remainders ids n p own id before₀ i₀ before i =

@@ -1,16 +1,18 @@
 // Shares by largest remainder.
 ghost use mathlib.Core.Path.{_≡_};
-ghost use Prim.Native.Nat.{_+_, _*_, _-_, _/_, _%_, _≤_, _<_, _^_};
+ghost use Prim.Native.Nat.{_≤_, _<_};
 ghost use lib.ListN.{length};
+ghost use Rattle.slicing.specs.Devices.{Rising};
 ghost use Rattle.slicing.specs.Devices.{capacities as capacitiesOf};
 ghost use Rattle.slicing.specs.LargestRemainder.{largestRemainder};
+ghost use Rattle.slicing.specs.Limits.{maxRange};
 ghost use Rattle.slicing_core.specs.Rows.{rows, deviceRows};
-ghost use Rattle.slicing_core.specs.Stages.{Below, Remainders};
-ghost use Rattle.slicing_core.specs.Stages.{rank as rankOf};
+ghost use Rattle.shares.specs.LargestRemainder.{Remainders};
+ghost use Rattle.shares.specs.LargestRemainder.{rank as rankOf};
 
 // The sum of the capacities.
 fn sum(capacities: &[u64; 256], ids: &[u64; 256], n: usize) -> u64
-    requires { ⌜ (n ≤ 256) × Below 16000001 (now capacities) n ⌝ }
+    requires { ⌜ (n ≤ 256) × Rising 0 (deviceRows (now ids) (now capacities) 0 n) ⌝ }
     ensures { λ r. ⌜ r ≡ capacitiesOf (deviceRows (now (ids .entry)) (now (capacities .entry)) 0 n) ⌝ }
 {
     let mut c = 0;
@@ -30,7 +32,7 @@ struct Division {
 }
 
 fn divided(range: u64, capacities: &[u64; 256], ids: &[u64; 256], n: usize, c: u64) -> Division
-    requires { ⌜ (n ≤ 256) × (range ≤ 2 ^ 32) × Below 16000001 (now capacities) n ⌝ }
+    requires { ⌜ (n ≤ 256) × (range ≤ maxRange) × Rising 0 (deviceRows (now ids) (now capacities) 0 n) ⌝ }
     requires { ⌜ (c ≡ capacitiesOf (deviceRows (now ids) (now capacities) 0 n)) × (1 ≤ c) ⌝ }
     ensures { λ r. ⌜ Remainders range (now (ids .entry)) (now (capacities .entry)) n (r .floors) (r .remainders) (r .leftover) ⌝ }
 {
@@ -78,10 +80,9 @@ fn rank(remainders: &[u64; 256], ids: &[u64; 256], n: usize, p: usize) -> u64
     before
 }
 
-// The share of each of the n devices, n being at least 1.
+// The share of each of the n devices by largest remainder.
 pub fn shares(range: u64, ids: &[u64; 256], capacities: &[u64; 256], n: usize) -> [u64; 256]
-    requires { ⌜ (n ≤ 256) × (range ≤ 2 ^ 32) × Below 16000001 (now capacities) n ⌝ }
-    requires { ⌜ 1 ≤ capacitiesOf (deviceRows (now ids) (now capacities) 0 n) ⌝ }
+    requires { ⌜ (1 ≤ n) × (n ≤ 256) × (range ≤ maxRange) × Rising 0 (deviceRows (now ids) (now capacities) 0 n) ⌝ }
     ensures shares { λ r. ⌜ rows r (now (ids .entry)) 0 n ≡ largestRemainder range (deviceRows (now (ids .entry)) (now (capacities .entry)) 0 n) ⌝ }
     ensures { λ r. ⌜ length r ≡ 256 ⌝ }
 {

@@ -1,4 +1,4 @@
--- `slicing_core::shares::divided` meets its contract. The loop's invariant: floors and remainders of the rows passed are stored, and
+-- `shares::largest_remainder::divided` meets its contract. The loop's invariant: floors and remainders of the rows passed are stored, and
 -- what is given and the floors of the rows left are all floors.
 use mathlib.Core.Path.{_≡_, refl, ap}
 use Prim.Native.Nat.{_+_, _*_, _-_, _/_, _%_, _≤_}
@@ -6,12 +6,12 @@ use native.Mathlib.Nat.{zero-add, sub-zero}
 use native.Mathlib.Omega.{arith}
 use borrow.Author.Needs.{needs}
 use Rattle.slicing.specs.LargestRemainder.{floors as floorsOf}
 use Rattle.slicing_core.specs.Rows.{at, deviceRows}
 use Rattle.slicing_core.proofs.Fills.{Filling, filling-none, filling-put}
 use Rattle.slicing_core.proofs.Rows.{deviceRows-step, deviceRows-end}
-use Rattle.slicing_core.proofs.ShareRows.{product-most, floors-most, remainders-rows}
-use Rattle.slicing_core.proofs.shares.divided.Statement.{statement}
-use Rattle.slicing_core.proofs.shares.divided.Tie as tie
+use Rattle.shares.proofs.LargestRemainder.{capacity-most, product-most, floors-most, remainders-rows}
+use Rattle.shares.proofs.largest_remainder.divided.Statement.{statement}
+use Rattle.shares.proofs.largest_remainder.divided.Tie as tie
 
 abbrev Inv-loop : tie.InvT-loop
 Inv-loop range capacities ids n c floors₀ remainders₀ given₀ i₀ floors remainders given i =
@@ -40,8 +40,9 @@ loop-holds c = (omega arith, filling-none _, filling-none _, simp (zero-add, sub
 
 mul-product-2 : tie.Need-mul-product-2 Inv-loop μ-loop
 mul-product-2 c =
-    let pre = c .before .before .before .pre .0 in
-    omega (arith, product-most (pre .1) (pre .2 (c .before .before .loop .i) (c .before .loop-test .taken)))
+    let s = c .before .before .before in
+    let most = capacity-most (s .args .ids .now) (s .args .capacities .now) (s .args .n) (s .pre .0 .2) in
+    omega (arith, product-most (s .pre .0 .1) (most (c .before .before .loop .i) (c .before .loop-test .taken)))
 
 add-given : tie.Need-add-given Inv-loop μ-loop
 add-given c = omega (arith, step (c .before), most (c .before .before .before))

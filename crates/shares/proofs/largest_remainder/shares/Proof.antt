@@ -1,15 +1,15 @@
--- `slicing_core::shares::shares` meets its contract. The loop's invariant: the shares of the rows passed are stored.
+-- `shares::largest_remainder::shares` meets its contract. The loop's invariant: the shares of the rows passed are stored.
 use mathlib.Core.Logic.{⊎-elim}
 use Prim.Native.Nat.{_-_, _≤_}
 use native.Mathlib.Omega.{arith}
 use borrow.Author.Needs.{needs}
 use Rattle.slicing.specs.Devices.{device}
 use Rattle.slicing.specs.LargestRemainder.{share}
 use Rattle.slicing_core.specs.Rows.{at, deviceRows}
 use Rattle.slicing_core.proofs.Fills.{Filling, filling-none, filling-put}
-use Rattle.slicing_core.proofs.ShareRows.{floor-most, share-more, share-same, rows-shares}
-use Rattle.slicing_core.proofs.shares.shares.Statement.{statement}
-use Rattle.slicing_core.proofs.shares.shares.Tie as tie
+use Rattle.shares.proofs.LargestRemainder.{capacity-most, some-capacities, floor-most, share-more, share-same, rows-shares}
+use Rattle.shares.proofs.largest_remainder.shares.Statement.{statement}
+use Rattle.shares.proofs.largest_remainder.shares.Tie as tie
 
 abbrev Inv-loop : tie.InvT-loop
 Inv-loop range ids capacities n c floors remainders leftover into₀ i₀ into i =
@@ -18,15 +18,24 @@ Inv-loop range ids capacities n c floors remainders leftover into₀ i₀ into i
 abbrev μ-loop : tie.MeasureT-loop
 μ-loop range ids capacities n c floors remainders leftover into₀ i₀ into i = n - i
 
+divided-requires : tie.Need-divided-requires Inv-loop μ-loop
+divided-requires c κs =
+    let s = c .before in
+    let args = s .args in (
+      (s .pre .1, s .pre .2, s .pre .3),
+      (c .sum .ensures, omega (arith, c .sum .ensures, some-capacities (args .ids .now) (args .capacities .now) (args .n) (s .pre .3) (s .pre .0))),
+    )
+
 loop-holds : tie.Need-loop-holds Inv-loop μ-loop
 loop-holds c = (omega arith, filling-none _)
 
 add-into : tie.Need-add-into Inv-loop μ-loop
 add-into c =
-    let pre = c .before .before .before .before .before .before .before .before .before .pre .0 in
+    let s = c .before .before .before .before .before .before .before .before .before in
+    let most = capacity-most (s .args .ids .now) (s .args .capacities .now) (s .args .n) (s .pre .3) in
     let i = c .before .before .before .before .loop .i in
     let l = c .before .before .before .loop-test .taken in
-    omega (arith, floor-most (c .before .before .before .before .before .before .before .divided .ensures) i l (pre .1) (pre .2 i l))
+    omega (arith, floor-most (c .before .before .before .before .before .before .before .divided .ensures) i l (s .pre .2) (most i l))
 
 loop-again : tie.Need-loop-again Inv-loop μ-loop
 loop-again c =
@@ -55,7 +64,7 @@ shares-spec =
     Inv-loop
     μ-loop
     (λ c κs. search needs)
-    (λ c κs. search needs)
+    divided-requires
     loop-holds
     (λ c κs. search needs)
     (λ c. search needs)
