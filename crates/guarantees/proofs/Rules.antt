@@ -8,7 +8,7 @@
 -- texts: line-for-line, line-count, text-parts, text-printed; texts-joined, texts-printed, texts-both; refused-stays, refused-dropped,
 -- accepted-alone, same-text, same-accepted
 use mathlib.Core.Path.{_≡_}
-use mathlib.Core.List.{List, [], _∷_, _++_}
+use mathlib.Core.List.{List, [], _∷_, _++_, List·Memᴰ}
 use Prim.Native.Nat.{ℕ, suc, _+_, _*_, _≤_, _<_, min}
 use lib.ListN.{length, take, drop}
 use Rattle.sha1.specs.Fips180.{schedule, rounds, pad, N}
@@ -17,12 +17,12 @@ use Rattle.sha1.specs.Sixteen.{run}
 use Rattle.sha1.proofs.Agree as Sha1
 use Rattle.sha1.proofs.Padding as Padding
 use Rattle.slicing.specs.Changes.{fresh, Change, add, remove, resize, change}
-use Rattle.slicing.specs.Devices.{Device, capacities}
-use Rattle.slicing.specs.LargestRemainder.{share}
+use Rattle.slicing.specs.Devices.{Device, capacities, Rising}
 use Rattle.slicing.specs.Runs.{count, intervals}
+use Rattle.slicing.specs.ShareRule.{shareOf}
 use Rattle.slicing.proofs.Cases as Cases
 use Rattle.slicing.proofs.Cases.{after, next, full}
-use Rattle.slicing.proofs.LargestRemainder as Shares
+use Rattle.slicing.proofs.ShareRule as Shares
 use Rattle.placement.specs.Pools.{stateOf, poolOf, ValidPool}
 use Rattle.placement.specs.declared.Pool.{Pool}
 use Rattle.placement.specs.declared.PoolAnswer.{PoolAnswer}
@@ -59,9 +59,9 @@ whole-blocks = Padding.whole-blocks
 
 -- ---- shares
 
-pub share-near : (R : ℕ) (ds : List Device) (e : Device) → 1 ≤ capacities ds
-    → (R * e .capacity < capacities ds * share R ds e + capacities ds) × (capacities ds * share R ds e < R * e .capacity + capacities ds)
-share-near R ds e h = (Shares.share-above R ds e h, Shares.share-below R ds e h)
+pub share-near : (R : ℕ) (ds : List Device) → Rising 0 ds → (e : Device) → List·Memᴰ e ds
+    → (R * e .capacity < capacities ds * shareOf R ds (e .id) + capacities ds) × (capacities ds * shareOf R ds (e .id) < R * e .capacity + capacities ds)
+share-near = Shares.shareOf-near
 
 -- ---- 'Checks run down the table; the first that applies counts'
 

@@ -8,7 +8,6 @@ use mathlib.Core.Path.{_≡_, refl}
 use mathlib.Core.List.{List, [], _∷_}
 use Prim.Native.Nat.{ℕ}
 use Rattle.slicing.specs.Changes.{change}
-use Rattle.slicing.specs.LargestRemainder.{largestRemainder}
 use Rattle.slicing.specs.ShareRule.{shares}
 use Rattle.slicing.specs.SixSteps.{turns}
 use Rattle.history_lines.specs.Lines.{lineIn}
@@ -39,7 +38,7 @@ pub printed : transcript example
     57 ∷ 32 ∷ 53 ∷ 56 ∷ 32 ∷ 51 ∷ 10 ∷
     54 ∷ 55 ∷ 32 ∷ 49 ∷ 54 ∷ 32 ∷ 49 ∷ 10 ∷
     56 ∷ 51 ∷ 32 ∷ 49 ∷ 55 ∷ 32 ∷ 51 ∷ 10 ∷ []
-unfolding transcript replayed lineIn numberIn capacityIn decimal change turns shares largestRemainder
+unfolding transcript replayed lineIn numberIn capacityIn decimal change turns shares
 printed = refl
 
 -- 'add 1 1' without a line end

@@ -2,13 +2,12 @@
 use mathlib.Core.Path.{refl}
 use Rattle.history_lines.specs.Text.{capacityIn}
 use Rattle.slicing.specs.Changes.{change}
-use Rattle.slicing.specs.LargestRemainder.{largestRemainder}
 use Rattle.slicing.specs.ShareRule.{shares}
 use Rattle.slicing.specs.SixSteps.{turns}
 use Rattle.marked.specs.Marked.{Marked}
 
 pub marked : Marked
-unfolding capacityIn change turns shares largestRemainder
+unfolding capacityIn change turns shares
 marked = record {
   K1 = refl;
   K2 = (refl, refl);
