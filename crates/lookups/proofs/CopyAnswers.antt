@@ -1,6 +1,6 @@
 -- The answers for copies, case by case, as the rules have them.
 --
--- Refusing (what a refusal shows); refuses-eleven, refuses-ten, refuses-twelve; Accepting, accepts
+-- Refusing (what a refusal shows); refuses-two, refuses-eleven, refuses-ten, refuses-twelve; Accepting, accepts
 use mathlib.Core.Path.{_≡_, refl, sym, ap, _∙_, subst}
 use mathlib.Core.Bool.{true, false}
 use mathlib.Core.List.{List}
@@ -26,6 +26,9 @@ Refusing x n c r = (r .refusal ≡ x) × (r .owners ≡ replicate 8 0) × (r .pr
 refuses : (u : Outcome) (x n : ℕ) (c : Counters) (r : CopiesAnswer) → u ≡ refusal x n → eqb x 0 ≡ false → Refusing x n c r → Answered u c r
 refuses u x n c r e f h = subst (λ (v : Outcome). Answered v c r) (sym e)
     (record { number = h .0; owners = h .1; probes = h .2; counters = rw f (h .3) })
+
+pub refuses-two : {c : Counters} {r : CopiesAnswer} → Refusing 2 0 c r → Answered (refusal 2 0) c r
+refuses-two {c} {r} h = refuses (refusal 2 0) 2 0 c r refl refl h
 
 pub refuses-eleven : (o : ℕ → ℕ) (n k : ℕ) (c : Counters) (r : CopiesAnswer) → outside 8 k ≡ true → Refusing 11 0 c r → Answered (copiesOf o n k) c r
 refuses-eleven o n k c r e h = refuses (copiesOf o n k) 11 0 c r (rw e) refl h

@@ -2,8 +2,8 @@
 --
 --   pointReply r, ownerReply r    document 01's number and value of an answer
 --   Located block t R r       r answers the call for the point of a probe
---   LookedIn .., Looked p x r     r answers the call for the owner of a point, on arrays and on a pool
---   CopiedIn .., Copied p ..      r answers the call for copies, on arrays and on a pool
+--   LookedIn .., Looked p x r     r answers the call for the owner of a point, on arrays of any contents and on a pool
+--   CopiedIn .., Copied p ..      r answers the call for copies, on arrays of any contents and on a pool
 use mathlib.Core.Path.{_≡_}
 use mathlib.Core.Bool.{Bool, cond, _||_}
 use mathlib.Core.List.{List}
@@ -17,7 +17,7 @@ use Rattle.placement.specs.declared.Pool.{Pool}
 use Rattle.slicing.specs.Limits.{maxRange, outside}
 use Rattle.slicing.specs.Replies.{Reply, replied, declined}
 use Rattle.slicing.specs.Runs.{ownerAt}
-use Rattle.lookups.specs.Copies.{Outcome, copiesOf}
+use Rattle.lookups.specs.Copies.{Outcome, refusal, copiesOf}
 use Rattle.lookups.specs.Counting.{counted}
 use Rattle.lookups.specs.declared.CopiesAnswer.{CopiesAnswer}
 use Rattle.lookups.specs.declared.Counters.{Counters}
@@ -57,13 +57,14 @@ pub record LookedIn (s o : List ℕ) (q n R x : ℕ) (r : OwnerAnswer) : Type 0 
   pub answer : r ≡ ownerAnswer R n x (ownerFound s o (clamped q) x)
   pub reply : ownerReply r ≡ cond (leb R x) (declined 13) (cond (eqb n 0) (declined 10) (replied (ownerFound s o (clamped q) x)))
 
--- 'A plain call gives the owner of a point': of a valid pool, by the rules' table; of any other, the owner that halving finds
+-- 'A plain call gives the owner of a point': of a valid pool, by the rules' table; any other is refused with 2
 pub record Looked (p : Pool) (x : ℕ) (r : OwnerAnswer) : Type 0 where
   pub valid : ValidPool p → r ≡ ownerAnswer (p .range) (p .devices) x (ownerAt (stateOf p .table) x)
   pub reply : ValidPool p
       → ownerReply r
       ≡ cond (leb (p .range) x) (declined 13) (cond (eqb (p .devices) 0) (declined 10) (replied (ownerAt (stateOf p .table) x)))
-  pub any : LookedIn (p .starts) (p .owners) (p .intervals) (p .devices) (p .range) x r
+  pub invalid : (ValidPool p → ⊥) → r ≡ Refused 2
+  pub invalidReply : (ValidPool p → ⊥) → ownerReply r ≡ declined 2
 
 -- ---- copies
 
@@ -77,7 +78,7 @@ pub record Answered (u : Outcome) (c : Counters) (r : CopiesAnswer) : Type 0 whe
 pub record CopiedIn (s o : List ℕ) (q n R block k : ℕ) (c : Counters) (r : CopiesAnswer) : Type 0 where
   pub found : Answered (copiesOf (ownerOf s o q (min R maxRange) block) n k) c r
 
--- of a valid pool the rules' outcome, by its table; of any other that of the owners that halving finds
+-- of a valid pool the rules' outcome, by its table; any other is refused with 2
 pub record Copied (p : Pool) (block k : ℕ) (c : Counters) (r : CopiesAnswer) : Type 0 where
   pub valid : ValidPool p → Answered (copiesOf (λ t. ownerAt (stateOf p .table) (pointOf block t (p .range))) (p .devices) k) c r
-  pub any : Answered (copiesOf (ownerOf (p .starts) (p .owners) (p .intervals) (min (p .range) maxRange) block) (p .devices) k) c r
+  pub invalid : (ValidPool p → ⊥) → Answered (refusal 2 0) c r

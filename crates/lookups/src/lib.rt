@@ -1,11 +1,12 @@
-// The offered lookups: the owner of a point, the point of a probe, the copies of a block. A lookup does
-// not test the pool: its refusals are the same for every pool value, its owners are the rules' for
-// every valid pool, and for any other it still answers. A lookup takes the pool by reference; the work
-// is done on its lent arrays.
+// The offered lookups: the owner of a point, the point of a probe, the copies of a block. A lookup of a
+// pool decides first whether the pool is valid, and refuses any other with 2. For callers that make
+// many lookups of a pool that is known to be valid there are lookups on its lent arrays: they decide
+// nothing, take logarithmic time, and are safe for any contents.
 use lookup_core::owner_found;
 use lookup_core::probe_point;
 use lookup_core::walk_probes;
 use placement::Pool;
+use placement::valid::valid;
 ghost use mathlib.Core.Path.{_≡_};
 ghost use Prim.Native.Nat.{_+_, min};
 ghost use lib.ListN.{replicate};
@@ -75,7 +76,8 @@ fn raised(x: u32, y: u32) -> u32
     if x <= u32::MAX - y { x + y } else { u32::MAX }
 }
 
-// The owner of a point, on the lent arrays of a pool: for callers that make many lookups.
+// The owner of a point, on the lent arrays of a pool: for callers that make many lookups. 13 where the
+// point is at or above the range, then 10 where no device is present.
 pub fn owner_in<'a>(
     starts: &'a [u32; 4096],
     owners: &'a [u16; 4096],
@@ -106,7 +108,9 @@ fn refused(refusal: u32, probes: u32, counters: Counters) -> CopiesAnswer
     }
 }
 
-// The copies of a block, on the lent arrays of a pool: for callers that make many lookups.
+// The copies of a block, on the lent arrays of a pool: for callers that make many lookups. 11 where k is
+// not within 1 to 8; 10 where no device is present; 12, with 256 probes, where 256 probes find fewer
+// than k different owners.
 pub fn copies_in<'a>(
     starts: &'a [u32; 4096],
     owners: &'a [u16; 4096],
@@ -149,13 +153,18 @@ pub fn copies_in<'a>(
     }
 }
 
-// The owner of a point. 13 where it is at or above the range, then 10 where no device is present.
-pub fn owner(pool: &Pool, point: u64) -> OwnerAnswer
-    ensures { λ r. ⌜ Looked (now (pool .entry)) point r ⌝ }
+// The owner of a point, where the pool is valid.
+fn checked_owner(pool: Pool, point: u64) -> OwnerAnswer
+    ensures { λ r. ⌜ Looked pool point r ⌝ }
 {
+    if !valid(pool) {
+        return OwnerAnswer::Refused(2);
+    }
+    let starts = pool.starts;
+    let owners = pool.owners;
     owner_in(
-        &pool.starts,
-        &pool.owners,
+        &starts,
+        &owners,
         pool.intervals,
         pool.devices,
         pool.range,
@@ -163,14 +172,18 @@ pub fn owner(pool: &Pool, point: u64) -> OwnerAnswer
     )
 }
 
-// The k devices that hold the copies of a block. 11 where k is not within 1 to 8; 10 where no device is
-// present; 12, with 256 probes, where 256 probes find fewer than k different owners.
-pub fn copies(pool: &Pool, block: u64, k: u64, counters: Counters) -> CopiesAnswer
-    ensures { λ r. ⌜ Copied (now (pool .entry)) block k counters r ⌝ }
+// The copies of a block, where the pool is valid.
+fn checked_copies(pool: Pool, block: u64, k: u64, counters: Counters) -> CopiesAnswer
+    ensures { λ r. ⌜ Copied pool block k counters r ⌝ }
 {
+    if !valid(pool) {
+        return refused(2, 0, counters);
+    }
+    let starts = pool.starts;
+    let owners = pool.owners;
     copies_in(
-        &pool.starts,
-        &pool.owners,
+        &starts,
+        &owners,
         pool.intervals,
         pool.devices,
         pool.range,
@@ -180,15 +193,31 @@ pub fn copies(pool: &Pool, block: u64, k: u64, counters: Counters) -> CopiesAnsw
     )
 }
 
-// The owner of a point, of a pool by value, which it lends to `owner`: for callers that make one lookup.
+// The owner of a point. 2 for a pool that is not valid; 13 where the point is at or above the range, then
+// 10 where no device is present.
+pub fn owner(pool: &Pool, point: u64) -> OwnerAnswer
+    ensures { λ r. ⌜ Looked (now (pool .entry)) point r ⌝ }
+{
+    checked_owner(*pool, point)
+}
+
+// The k devices that hold the copies of a block. 2 for a pool that is not valid; 11 where k is not within
+// 1 to 8; 10 where no device is present; 12, with 256 probes, where 256 probes find fewer than k
+// different owners.
+pub fn copies(pool: &Pool, block: u64, k: u64, counters: Counters) -> CopiesAnswer
+    ensures { λ r. ⌜ Copied (now (pool .entry)) block k counters r ⌝ }
+{
+    checked_copies(*pool, block, k, counters)
+}
+
+// The owner of a point, of a pool by value, which it lends to `owner`.
 pub fn owner_of(pool: Pool, point: u64) -> OwnerAnswer
     ensures { λ r. ⌜ Looked pool point r ⌝ }
 {
     owner(&pool, point)
 }
 
-// The copies of a block, of a pool by value, which it lends to `copies`: for callers that make one
-// lookup.
+// The copies of a block, of a pool by value, which it lends to `copies`.
 pub fn copies_of(pool: Pool, block: u64, k: u64, counters: Counters) -> CopiesAnswer
     ensures { λ r. ⌜ Copied pool block k counters r ⌝ }
 {
