@@ -12,13 +12,12 @@ use Rattle.slicing.specs.Changes.{State}
 use Rattle.placement.specs.Pools.{stateOf}
 use Rattle.placement.specs.declared.PoolAnswer.{PoolAnswer}
 use Rattle.lookups.specs.Copies.{Outcome}
-use Rattle.lookups.specs.Promises.{Answered}
-use Rattle.lookups.specs.Promises as Lookups
+use Rattle.lookups.specs.Promises.{Answered, CopiedIn}
 use Rattle.lookups.specs.declared.CopiesAnswer.{CopiesAnswer}
 use Rattle.lookups.specs.declared.Counters.{Counters}
 use Rattle.images.specs.Promises.{ReadAs}
 use Rattle.gorvyts.specs.Promises.{Copied, outcomeOf, countersIn, tallyOf, countedBy, copiedAs, CopiedOne, rowsFor, countedFor, CopiedMany}
-use Rattle.gorvyts.proofs.CopiedRows.{answered-state, rowIn-answered}
+use Rattle.gorvyts.proofs.CopiedRows.{answered-arrays, rowIn-answered}
 use Rattle.gorvyts.proofs.OnImages.{on-image-refused, on-image-accepted, on-image-valid}
 
 left-same : {n m : ℕ} {t u w v : List ℕ} → n ≡ m → t ≡ u → w ≡ v
@@ -51,7 +50,8 @@ module _ (xs : List ℕ) (block k : ℕ) (t w : List ℕ) where
       room = λ p q. on-image-refused xs _ _ _ made i z (left-same refl refl e);
     }
 
-    pub one-copied : (c : Counters) (r : CopiesAnswer) (t' w' : List ℕ) → made .refusal ≤ 0 → c ≡ countersIn t → Lookups.Copied (made .pool) block k c r
+    pub one-copied : (c : Counters) (r : CopiesAnswer) (t' w' : List ℕ) → made .refusal ≤ 0 → c ≡ countersIn t
+        → CopiedIn (made .pool .starts) (made .pool .owners) (made .pool .intervals) (made .pool .devices) (made .pool .range) block k c r
         → w' ≡ r .refusal ∷ r .owners ++ r .probes ∷ drop 10 w → t' ≡ tallyOf (r .counters) t
         → CopiedOne xs block k t w (record { number = r .refusal; tally = t'; rows = w' })
     one-copied c r t' w' z e a f g = record {
@@ -59,7 +59,7 @@ module _ (xs : List ℕ) (block k : ℕ) (t w : List ℕ) where
       noRow = λ h. absurd (omega (arith, h, m));
       room = λ p q.
           on-image-accepted xs _ _ _ made i z
-          (answered-as (stateOf (made .pool)) block k t t' w w' c r (answered-state (made .pool) (on-image-valid xs made i z) block k c r a) e f g);
+          (answered-as (stateOf (made .pool)) block k t t' w w' c r (answered-arrays (made .pool) (on-image-valid xs made i z) block k c r a) e f g);
     }
 
 -- ---- many blocks

@@ -6,7 +6,7 @@
 -- put-two (the first two numbers)
 -- owners-put (an owner more), owners-all (all eight)
 -- put-row (a row of ten numbers), put-zeros (the row of a refusal)
--- answered-state, answered-arrays (the answer for a block, from what is promised of a pool and of its arrays); rowIn-answered
+-- answered-arrays (the answer for a block, from what is promised of the arrays of a valid pool); rowIn-answered
 -- Many: many-none, many-room, many-more, many-all
 use mathlib.Core.Path.{_≡_, refl, sym, ap, _∙_, subst}
 use mathlib.Core.List.{List, [], _∷_, _++_, append-assoc, append-nil}
@@ -24,7 +24,7 @@ use Rattle.placement.specs.Pools.{stateOf, ValidPool}
 use Rattle.placement.specs.declared.Pool.{Pool}
 use Rattle.lookup_core.specs.Probes.{pointOf}
 use Rattle.lookups.specs.Copies.{Outcome, copiesOf}
-use Rattle.lookups.specs.Promises.{Answered, CopiedIn, Copied}
+use Rattle.lookups.specs.Promises.{Answered, CopiedIn}
 use Rattle.lookups.specs.declared.CopiesAnswer.{CopiesAnswer}
 use Rattle.lookups.specs.declared.Counters.{Counters}
 use Rattle.lookups.proofs.Promised.{copied-in}
@@ -67,12 +67,9 @@ outcome-state : (p : Pool) (block k : ℕ)
 unfolding stateOf
 outcome-state p block k = rw (length-deviceRows (p .ids) (p .capacities) 0 (p .devices))
 
-pub answered-state : (p : Pool) → ValidPool p → (block k : ℕ) (c : Counters) (r : CopiesAnswer) → Copied p block k c r → Answered (outcomeOf (stateOf p) k block) c r
-answered-state p v block k c r a = subst (λ (u : Outcome). Answered u c r) (outcome-state p block k) (a .valid v)
-
 pub answered-arrays : (p : Pool) → ValidPool p → (block k : ℕ) (c : Counters) (r : CopiesAnswer)
     → CopiedIn (p .starts) (p .owners) (p .intervals) (p .devices) (p .range) block k c r → Answered (outcomeOf (stateOf p) k block) c r
-answered-arrays p v block k c r a = answered-state p v block k c r (copied-in p block k c r a)
+answered-arrays p v block k c r a = subst (λ (u : Outcome). Answered u c r) (outcome-state p block k) (copied-in p v block k c r a .valid v)
 
 -- the row of an answer
 abbrev pub rowIn : CopiesAnswer → List ℕ

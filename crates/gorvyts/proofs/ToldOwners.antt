@@ -11,19 +11,24 @@ use Rattle.slicing_core.proofs.Rows.{length-deviceRows}
 use Rattle.placement.specs.Pools.{stateOf, ValidPool}
 use Rattle.placement.specs.declared.Pool.{Pool}
 use Rattle.placement.specs.declared.PoolAnswer.{PoolAnswer}
-use Rattle.lookups.specs.Promises.{ownerAnswer, Looked}
+use Rattle.lookups.specs.Promises.{ownerAnswer, LookedIn}
 use Rattle.lookups.specs.declared.OwnerAnswer.{OwnerAnswer}
 use Rattle.lookups.specs.declared.OwnerAnswer.the-variants.{Owner, Refused}
+use Rattle.lookups.proofs.Promised.{looked-in}
 use Rattle.images.specs.Promises.{ReadAs}
 use Rattle.gorvyts.specs.Promises.{Told, ownerTold, Owned}
 use Rattle.gorvyts.proofs.OnImages.{on-image-refused, on-image-accepted, on-image-valid}
 
+-- what a lookup on the arrays of a pool answers
+abbrev Found : Pool → ℕ → OwnerAnswer → Type 0
+Found p = LookedIn (p .starts) (p .owners) (p .intervals) (p .devices) (p .range)
+
 -- the devices of a pool are those of its state
-looked-state : (p : Pool) (x : ℕ) (w : OwnerAnswer) → ValidPool p → Looked p x w
+found-state : (p : Pool) (x : ℕ) (w : OwnerAnswer) → ValidPool p → Found p x w
     → w ≡ ownerAnswer (stateOf p .range) (length (stateOf p .devices)) x (ownerAt (stateOf p .table) x)
 unfolding stateOf
-looked-state p x w v h =
-    h .valid v
+found-state p x w v h =
+    looked-in p v x w h .valid v
     ∙ ap (λ (n : ℕ). ownerAnswer (p .range) n x (ownerAt (stateOf p .table) x)) (sym (length-deviceRows (p .ids) (p .capacities) 0 (p .devices)))
 
 module _ (xs : List ℕ) (x : ℕ) (a : List ℕ) where
@@ -37,16 +42,16 @@ module _ (xs : List ℕ) (x : ℕ) (a : List ℕ) where
       room = λ h. on-image-refused xs _ _ _ made i z (rw e);
     }
 
-    owned-told : (w : OwnerAnswer) (r : Told) → made .refusal ≤ 0 → Looked (made .pool) x w → r ≡ ownerTold a w → Owned xs x a r
+    owned-told : (w : OwnerAnswer) (r : Told) → made .refusal ≤ 0 → Found (made .pool) x w → r ≡ ownerTold a w → Owned xs x a r
     owned-told w r z h e = record {
       short = λ k. absurd (omega (arith, l, k));
-      room = λ k. on-image-accepted xs _ _ r made i z (e ∙ ap (ownerTold a) (looked-state (made .pool) x w (on-image-valid xs made i z) h));
+      room = λ k. on-image-accepted xs _ _ r made i z (e ∙ ap (ownerTold a) (found-state (made .pool) x w (on-image-valid xs made i z) h));
     }
 
-    pub owned-owner : (w : OwnerAnswer) (d : ℕ) (a' : List ℕ) → made .refusal ≤ 0 → Looked (made .pool) x w → w ≡ Owner d → a' ≡ d ∷ drop 1 a
+    pub owned-owner : (w : OwnerAnswer) (d : ℕ) (a' : List ℕ) → made .refusal ≤ 0 → Found (made .pool) x w → w ≡ Owner d → a' ≡ d ∷ drop 1 a
         → Owned xs x a (record { number = 0; answer = a' })
     owned-owner w d a' z h e k = owned-told w _ z h (rw (e, k))
 
-    pub owned-none : (w : OwnerAnswer) (n : ℕ) (a' : List ℕ) → made .refusal ≤ 0 → Looked (made .pool) x w → w ≡ Refused n → a' ≡ 0 ∷ drop 1 a
+    pub owned-none : (w : OwnerAnswer) (n : ℕ) (a' : List ℕ) → made .refusal ≤ 0 → Found (made .pool) x w → w ≡ Refused n → a' ≡ 0 ∷ drop 1 a
         → Owned xs x a (record { number = n; answer = a' })
     owned-none w n a' z h e k = owned-told w _ z h (rw (e, k))

@@ -98,8 +98,19 @@ pub extern "C" fn gorvyts_copies(
         return made.refusal;
     }
     let pool = made.pool;
+    let starts = pool.starts;
+    let owners = pool.owners;
     let counters = counters_of(tally);
-    let answer = lookups::copies_of(pool, block, k, counters);
+    let answer = copies_in(
+        &starts,
+        &owners,
+        pool.intervals,
+        pool.devices,
+        pool.range,
+        block,
+        k,
+        counters,
+    );
     let after = answer.counters;
     put_row(&mut *row, answer);
     put_counters(&mut *tally, after);

@@ -1,6 +1,7 @@
 // The owner of a point.
 use crate::answers::put1;
 use lookups::OwnerAnswer;
+use lookups::owner_in;
 ghost use Rattle.gorvyts.specs.Promises.{Owned};
 
 // The owner of a point; answer: its id. 14 to 16 as of `gorvyts_check`; 13 where the point is at or above the
@@ -18,7 +19,17 @@ pub extern "C" fn gorvyts_owner(image: &[u8], point: u64, answer: &mut [u64]) ->
         return made.refusal;
     }
     let pool = made.pool;
-    match lookups::owner_of(pool, point) {
+    let starts = pool.starts;
+    let owners = pool.owners;
+    let found = owner_in(
+        &starts,
+        &owners,
+        pool.intervals,
+        pool.devices,
+        pool.range,
+        point,
+    );
+    match found {
         OwnerAnswer::Owner(id) => {
             put1(&mut *answer, id);
             0

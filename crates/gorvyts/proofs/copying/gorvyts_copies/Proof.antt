@@ -29,14 +29,14 @@ returns-4 c =
     let tallied = c .before .before in
     let put = tallied .before .before .before .before in
     let a = put .before .before .before in
-    let k = a .before in
-    let t = k .before .before .before in
+    let k = a .before .before .before in
+    let t = k .before .before .before .before .before in
     let r = t .before .before in
     let room = r .before in
     let s = room .before .before .before .before .before in
     one-copied (s .args .image .now) (s .args .block) (s .args .k) (s .args .tally .now) (s .args .row .now) (r .read .result) (r .read .ensures)
-    (room .before .if1 .left) (room .if2 .left) (k .counters-of .result) (a .copies-of .result) _ _ (t .if3 .left) (k .counters-of .ensures)
-    (a .copies-of .ensures) (put .put-row .ensures) (tallied .put-counters .ensures)
+    (room .before .if1 .left) (room .if2 .left) (k .counters-of .result) (a .copies-in .result) _ _ (t .if3 .left) (k .counters-of .ensures)
+    (a .copies-in .ensures) (put .put-row .ensures) (tallied .put-counters .ensures)
 
 pub gorvyts-copies-spec : {M : Type 1} → statement M
 gorvyts-copies-spec =

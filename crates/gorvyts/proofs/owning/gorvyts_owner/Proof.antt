@@ -23,22 +23,22 @@ returns-3 c =
     let put = c .before .before in
     let v = put .before .before .before in
     let o = v .before .before in
-    let t = o .before .before in
+    let t = o .before .before .before .before .before .before in
     let r = t .before .before in
     let s = r .before .before .before .before in
     owned-owner (s .args .image .now) (s .args .point) (s .args .answer .now) (r .read .result) (r .read .ensures) (r .before .if1 .left)
-    (o .owner-of .result) _ _ (t .if2 .left) (o .owner-of .ensures) (v .id .given .1) (put .put12 .ensures)
+    (o .owner-in .result) _ _ (t .if2 .left) (o .owner-in .ensures) (v .found .given .1) (put .put12 .ensures)
 
 returns-4 : tie.Need-returns-4
 returns-4 c =
     let put = c .before .before in
     let v = put .before .before .before in
     let o = v .before .before in
-    let t = o .before .before in
+    let t = o .before .before .before .before .before .before in
     let r = t .before .before in
     let s = r .before .before .before .before in
     owned-none (s .args .image .now) (s .args .point) (s .args .answer .now) (r .read .result) (r .read .ensures) (r .before .if1 .left)
-    (o .owner-of .result) _ _ (t .if2 .left) (o .owner-of .ensures) (v .refusal .given .1) (put .put13 .ensures)
+    (o .owner-in .result) _ _ (t .if2 .left) (o .owner-in .ensures) (v .found2 .given .1) (put .put13 .ensures)
 
 pub gorvyts-owner-spec : {M : Type 1} → statement M
 gorvyts-owner-spec =
