@@ -1,5 +1,5 @@
 -- Where the rules stop a lookup of copies, and what they find, by plain conditions: a line for each row of document 01's table 'Where a call stops' that
--- concerns copies. o t owns the point of probe t, n devices are present.
+-- concerns copies. o t owns the point of probe t, n devices are present. The 2 of a pool that is not valid comes before them: Lookups.antt `copies-invalid`.
 --
 --   NoCopies o n k x t    the lookup of k copies is refused with x after t probes
 --   HasCopies o n k       it is accepted

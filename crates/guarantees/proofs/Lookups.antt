@@ -3,14 +3,14 @@
 --
 --   Fails n t c r            r answers the refusal n, eight zeros, t probes and the counters c as they were
 --   Finds o k c r            r answers 0, the first k different owners in probe order and then zeros, the probes, and the counters that count them
---   ownersOf p block         who owns the point of each probe: of a valid pool, by its table
---   halvedOf p block         the same of any pool: the owner that halving finds
+--   ownersOf p block         who owns the point of each probe, by the table of a valid pool
+--   halvedIn s o q R block   the same on arrays of any contents: the owner that halving finds
 -- point: point-late (2, a probe above 255), point-outside (2), point-inside
--- owner_in: arrays-outside (13), arrays-none (10), arrays-owner
--- owner: owner-outside (13), owner-none (10), owner-in (the owner of the interval that holds the point, which is one: one-owner);
--- owner-halved (any pool)
--- copies: copies-outside (11), copies-none (10), copies-few (12), copies-found; halved-few (12), halved-found (any pool)
--- copies_in: lent-outside (11), lent-none (10), lent-few (12), lent-found
+-- owner_in, on any contents: arrays-outside (13), arrays-none (10), arrays-owner
+-- owner: owner-invalid (2, a pool that is not valid), owner-outside (13), owner-none (10), owner-in (the owner of the interval that holds
+-- the point, which is one: one-owner); owner-same (on the arrays of a valid pool owner_in answers as owner does)
+-- copies: copies-invalid (2), copies-outside (11), copies-none (10), copies-few (12), copies-found; copies-same (as owner-same)
+-- copies_in, on any contents: lent-outside (11), lent-none (10), lent-few (12), lent-found
 use mathlib.Core.Path.{_≡_, ap, _∙_, sym}
 use mathlib.Core.List.{List, [], _∷_, _++_}
 use Prim.Native.Nat.{ℕ, _+_, _-_, _≤_, _<_, min}
@@ -27,7 +27,7 @@ use Rattle.lookup_core.specs.Halving.{ownerFound}
 use Rattle.lookup_core.specs.Probes.{pointOf, choose}
 use Rattle.lookup_core.specs.Walks.{ownerOf}
 use Rattle.lookup_core.proofs.Choosing.{firsts}
-use Rattle.lookups.specs.Copies.{copiesOf}
+use Rattle.lookups.specs.Copies.{Outcome, copiesOf}
 use Rattle.lookups.specs.Promises.{pointReply, ownerReply, Located, LookedIn, Looked, Answered, CopiedIn, Copied}
 use Rattle.lookups.specs.declared.CopiesAnswer.{CopiesAnswer}
 use Rattle.lookups.specs.declared.Counters.{Counters}
@@ -35,6 +35,7 @@ use Rattle.lookups.specs.declared.OwnerAnswer.{OwnerAnswer}
 use Rattle.lookups.specs.declared.OwnerAnswer.the-variants.{Owner, Refused}
 use Rattle.lookups.specs.declared.PointAnswer.{PointAnswer}
 use Rattle.lookups.specs.declared.PointAnswer.the-variants as Point
+use Rattle.lookups.proofs.Promised.{looked-in, copied-in}
 use Rattle.demand3.specs.Points.{Lies, OneInterval}
 use Rattle.demand3.proofs.Tables.{one-interval}
 use Rattle.guarantees.proofs.CopyRules.{NoCopies, eleven, ten, twelve, HasCopies, no-copies, has-copies, no-copies-number}
@@ -89,28 +90,35 @@ one-owner p v some x l =
     (rw sub-zero at (intervals-owner 0 x (stateOf p .table) (omega arith) (omega (arith, v .valid .covers (omega (arith, length-devices p))))))
 
 module _ (p : Pool) (x : ℕ) (r : OwnerAnswer) (k : Looked p x r) where
-  -- of every pool: a point at or above R
-  pub owner-outside : p .range ≤ x → (r ≡ Refused 13) × Says (ownerReply r) 13 0
-  owner-outside h = arrays-outside (p .starts) (p .owners) (p .intervals) (p .devices) (p .range) x r (k .any) h
+  -- a pool that is not valid, before any other refusal
+  pub owner-invalid : (ValidPool p → ⊥) → (r ≡ Refused 2) × Says (ownerReply r) 2 0
+  owner-invalid h = (k .invalid h, says (k .invalidReply h))
 
-  module _ (l : x < p .range) where
-    -- no device
-    pub owner-none : p .devices ≡ 0 → (r ≡ Refused 10) × Says (ownerReply r) 10 0
-    owner-none h = arrays-none (p .starts) (p .owners) (p .intervals) (p .devices) (p .range) x r (k .any) l h
+  module _ (v : ValidPool p) where
+    -- a point at or above R
+    pub owner-outside : p .range ≤ x → (r ≡ Refused 13) × Says (ownerReply r) 13 0
+    owner-outside h = let e = le-leb (p .range) x h in (k .valid v ∙ rw e, says (k .reply v ∙ rw e))
 
-    module _ (some : 1 ≤ p .devices) where
-      pub owner-halved : (r ≡ Owner (ownerFound (p .starts) (p .owners) (min (p .intervals) 4096) x))
-          × Says (ownerReply r) 0 (ownerFound (p .starts) (p .owners) (min (p .intervals) 4096) x)
-      owner-halved = arrays-owner (p .starts) (p .owners) (p .intervals) (p .devices) (p .range) x r (k .any) l some
+    module _ (l : x < p .range) where
+      -- no device
+      pub owner-none : p .devices ≡ 0 → (r ≡ Refused 10) × Says (ownerReply r) 10 0
+      owner-none h =
+          let e = lt-leb (p .range) x l in
+          let f = eq-eqb (p .devices) 0 h in
+          (k .valid v ∙ rw (e, f), says (k .reply v ∙ rw (e, f)))
 
-      -- of a valid pool: interval i holds the point
-      pub owner-in : ValidPool p → (i : ℕ) → Lies p i x → (r ≡ Owner (at (p .owners) i)) × Says (ownerReply r) 0 (at (p .owners) i)
-      owner-in v i h =
+      -- interval i holds the point
+      pub owner-in : 1 ≤ p .devices → (i : ℕ) → Lies p i x → (r ≡ Owner (at (p .owners) i)) × Says (ownerReply r) 0 (at (p .owners) i)
+      owner-in some i h =
           let e = lt-leb (p .range) x l in
           let f = ne-eqb (p .devices) 0 (λ z. omega (arith, z, some)) in
           let one = one-owner p v some x l in
           let o : ownerAt (stateOf p .table) x ≡ at (p .owners) i = sym (one .owner) ∙ ap (at (p .owners)) (sym (one .only i h)) in
           (k .valid v ∙ rw (e, f, o), says (k .reply v ∙ rw (e, f, o)))
+
+    -- the lookup that decides nothing, on the arrays of the same pool, answers the same
+    pub owner-same : (w : OwnerAnswer) → LookedIn (p .starts) (p .owners) (p .intervals) (p .devices) (p .range) x w → w ≡ r
+    owner-same w h = looked-in p v x w h .valid v ∙ sym (k .valid v)
 
 -- ---- copies
 
@@ -137,33 +145,40 @@ module _ {o : ℕ → ℕ} {n k : ℕ} {c : Counters} {r : CopiesAnswer} (a : An
 abbrev pub ownersOf : Pool → ℕ → ℕ → ℕ
 ownersOf p block t = ownerAt (stateOf p .table) (pointOf block t (p .range))
 
-abbrev pub halvedOf : Pool → ℕ → ℕ → ℕ
-halvedOf p block = ownerOf (p .starts) (p .owners) (p .intervals) (min (p .range) 4294967296) block
+-- answers of one outcome, from the same counters, are one
+one-answer : {u : Outcome} {c : Counters} {r w : CopiesAnswer} → Answered u c w → Answered u c r → w ≡ r
+one-answer a b = same (a .number ∙ sym (b .number)) (a .owners ∙ sym (b .owners)) (a .probes ∙ sym (b .probes)) (a .counters ∙ sym (b .counters))
+  where
+    same : {m n t s : ℕ} {xs ys : List ℕ} {c d : Counters} → m ≡ n → xs ≡ ys → t ≡ s → c ≡ d
+        → _≡_ {A = CopiesAnswer} (record { refusal = m; owners = xs; probes = t; counters = c }) (record { refusal = n; owners = ys; probes = s; counters = d })
+    same e f g h = rw (e, f, g, h)
 
 module _ (p : Pool) (block k : ℕ) (c : Counters) (r : CopiesAnswer) (h : Copied p block k c r) where
-  -- of every pool: k is 0 or above 8
-  pub copies-outside : (Inside 8 k → ⊥) → Fails 11 0 c r
-  copies-outside l = fails {o = halvedOf p block} {n = p .devices} (h .any) (eleven l)
+  -- a pool that is not valid, before any other refusal: the counters stay
+  pub copies-invalid : (ValidPool p → ⊥) → Fails 2 0 c r
+  copies-invalid n = let a = h .invalid n in (a .number, a .owners, a .probes, a .counters)
 
-  module _ (i : Inside 8 k) where
-    -- no device
-    pub copies-none : p .devices ≡ 0 → Fails 10 0 c r
-    copies-none l = fails (h .any) (ten i l)
+  module _ (v : ValidPool p) where
+    -- k is 0 or above 8
+    pub copies-outside : (Inside 8 k → ⊥) → Fails 11 0 c r
+    copies-outside l = fails {o = ownersOf p block} {n = p .devices} (h .valid v) (eleven l)
 
-    module _ (some : 1 ≤ p .devices) where
-      pub halved-few : length (firsts (halvedOf p block) 256) < k → Fails 12 256 c r
-      halved-few l = fails (h .any) (twelve i some l)
+    module _ (i : Inside 8 k) where
+      -- no device
+      pub copies-none : p .devices ≡ 0 → Fails 10 0 c r
+      copies-none l = fails (h .valid v) (ten i l)
 
-      pub halved-found : k ≤ length (firsts (halvedOf p block) 256) → Finds (halvedOf p block) k c r
-      halved-found l = finds (h .any) (record { asked = i; some = some; enough = l })
-
-      module _ (v : ValidPool p) where
-        -- of a valid pool: fewer than k different owners in 256 tries
+      module _ (some : 1 ≤ p .devices) where
+        -- fewer than k different owners in 256 tries
         pub copies-few : length (firsts (ownersOf p block) 256) < k → Fails 12 256 c r
         copies-few l = fails (h .valid v) (twelve i some l)
 
         pub copies-found : k ≤ length (firsts (ownersOf p block) 256) → Finds (ownersOf p block) k c r
         copies-found l = finds (h .valid v) (record { asked = i; some = some; enough = l })
+
+    -- the lookup that decides nothing, on the arrays of the same pool, answers the same
+    pub copies-same : (w : CopiesAnswer) → CopiedIn (p .starts) (p .owners) (p .intervals) (p .devices) (p .range) block k c w → w ≡ r
+    copies-same w a = one-answer (copied-in p v block k c w a .valid v) (h .valid v)
 
 -- on the arrays of a pool
 abbrev pub halvedIn : List ℕ → List ℕ → ℕ → ℕ → ℕ → ℕ → ℕ
