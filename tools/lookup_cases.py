@@ -8,9 +8,9 @@ The head of crates/call_vectors/src/main.rt describes the lines, here of the kin
 - points and copies at the limits of their arguments
 - copies whose counters come close to their largest number
 - copies whose last owner is found by the last probe, and that miss it
-- lookups of pools that are not valid: only the refusals 10, 11 and 13
+- lookups of pools that are not valid, each refused with 2
 
-The reference follows document 01, 'Points and copies' and 'Where a call stops'.
+The reference follows document 01, 'Points and copies' and 'Where a call stops', for valid pools.
 """
 from hashlib import sha1
 
@@ -68,7 +68,7 @@ def copies(pool, block, k, lookups, probes):
 
 
 def owner_case(pool, x):
-    return line(7, x, 1), line(*owner(pool, x))
+    return line(7, x), line(*owner(pool, x))
 
 
 def point_case(*numbers):
@@ -76,7 +76,7 @@ def point_case(*numbers):
 
 
 def copies_case(pool, *numbers):
-    return line(9, *numbers, 1), line(*copies(pool, *numbers))
+    return line(9, *numbers), line(*copies(pool, *numbers))
 
 
 def lookups_of(folder):
@@ -187,9 +187,10 @@ def invalid():
         yield pool.loaded(), ""
         for x in (0, 4, 5, pool.size - 1, pool.size, LARGEST):
             if 0 <= x <= LARGEST:
-                yield line(7, x, 0), line(13 if x >= pool.size else 10 if pool.n == 0 else 0)
+                yield line(7, x), line(2, 0)
         for k in (0, 1, 3, 8, 9, LARGEST):
-            yield line(9, 1, k, 0, 0, 0), line(11 if not 1 <= k <= 8 else 10 if pool.n == 0 else 0)
+            for counters in ((0, 0), (5, 6), (MOST, MOST)):
+                yield line(9, 1, k, *counters), line(2, *[0] * 9, *counters)
 
 
 def cases(folder):

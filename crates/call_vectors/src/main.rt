@@ -13,9 +13,9 @@
 //                                  numbers are unchanged, and the pool
 //   5 id                           the share: the refusal number and the points
 //   6                              the pool
-//   7 point whole                  the owner of a point: the refusal number and the owner
+//   7 point                        the owner of a point: the refusal number and the owner
 //   8 block probe range            the point of a probe: the refusal number and the point
-//   9 block k lookups probes whole the copies of a block, with the counters before: the refusal number,
+//   9 block k lookups probes       the copies of a block, with the counters before: the refusal number,
 //                                  eight owners, the probes, and the counters afterwards
 //   10 byte ..                     reads the bytes: the refusal number, and the image of the pool made
 //   11 size byte ..                reads the bytes, an image, and writes the pool into a buffer of so many
@@ -33,8 +33,7 @@
 // place, start and owner of each interval. A place whose two numbers are 0 is left out, and an unused
 // one that is not 0 is there.
 //
-// In 7 and 9, where `whole` is not 1, only the refusal number is printed, if it is 10, 11 or 13, and else 0:
-// the rules fix no more for a pool that is not valid. A line of a larger kind than 13 is run as one of 10.
+// A line of a larger kind than 13 is run as one of 10.
 use number_text::Input;
 use number_text::PIECE;
 use number_text::least;

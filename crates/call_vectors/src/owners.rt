@@ -11,37 +11,13 @@ use number_text::spaced;
 use number_text::wide32;
 use placement::Pool;
 
-// Prints a refusal number that the rules fix for every pool; 0 for any other.
-fn print_fixed(refusal: u32) {
-    let mut fixed = 0;
-    if refusal == 10 {
-        fixed = 10;
-    }
-    if refusal == 11 {
-        fixed = 11;
-    }
-    if refusal == 13 {
-        fixed = 13;
-    }
-    first(fixed);
-    end_line();
-}
-
-fn print_owner(refusal: u32, owner: u64, whole: u64) {
-    if whole == 1 {
-        pair(wide32(refusal), owner);
-        return;
-    }
-    print_fixed(refusal);
-}
-
-fn owner_case(pool: Pool, point: u64, whole: u64) {
+fn owner_case(pool: Pool, point: u64) {
     match lookups::owner_of(pool, point) {
         OwnerAnswer::Owner(owner) => {
-            print_owner(0, owner, whole);
+            pair(0, owner);
         }
         OwnerAnswer::Refused(refusal) => {
-            print_owner(refusal, 0, whole);
+            pair(wide32(refusal), 0);
         }
     }
 }
@@ -73,19 +49,14 @@ fn copies_case(pool: Pool, numbers: &[u64; 16384]) {
         lookups: narrow32(numbers[3]),
         probes: narrow32(numbers[4]),
     };
-    let answer = lookups::copies_of(pool, numbers[1], numbers[2], counters);
-    if numbers[5] == 1 {
-        print_copies(answer);
-        return;
-    }
-    print_fixed(answer.refusal);
+    print_copies(lookups::copies_of(pool, numbers[1], numbers[2], counters));
 }
 
 // Runs a line.
 pub fn run(pool: Pool, numbers: &[u64; 16384]) {
     let kind = numbers[0];
     if kind == 7 {
-        owner_case(pool, numbers[1], numbers[2]);
+        owner_case(pool, numbers[1]);
         return;
     }
     if kind == 8 {
