@@ -1,13 +1,13 @@
--- `bench_sha1::bench_sha1_many` meets its contract. The loop's invariant: `x` is the xor of the first `i` words.
+-- `bench::digests::bench_sha1_many` meets its contract. The loop's invariant: `x` is the xor of the first `i` words.
 use mathlib.Core.Path.{_≡_, ap, ap₂, _∙_}
 use Prim.Native.Nat.{_≤_, _-_}
 use native.Mathlib.Numerals.{add-one}
 use native.Mathlib.Omega.{arith}
 use lib.Bits.{bitXor}
 use borrow.Author.Needs.{needs}
-use Rattle.bench_sha1.specs.Many.{many}
-use Rattle.bench_sha1.proofs.bench_sha1_many.Statement.{statement}
-use Rattle.bench_sha1.proofs.bench_sha1_many.Tie as tie
+use Rattle.bench.specs.Many.{many}
+use Rattle.bench.proofs.digests.bench_sha1_many.Statement.{statement}
+use Rattle.bench.proofs.digests.bench_sha1_many.Tie as tie
 
 abbrev Inv-loop : tie.InvT-loop
 Inv-loop count x₀ i₀ x i = (i ≤ count) × (x ≡ many i)

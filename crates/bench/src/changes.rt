@@ -1,19 +1,9 @@
-// Exports for bench/changes.
+// For bench/changes.
+use crate::checksums::mix;
+use crate::checksums::wide16;
+use crate::checksums::wide32;
 use placement::ChangeAnswer;
 use placement::Pool;
-
-fn wide16(x: u16) -> u64 {
-    x as u64
-}
-
-fn wide32(x: u32) -> u64 {
-    x as u64
-}
-
-// A checksum with one more number.
-fn mix(x: u64, y: u64) -> u64 {
-    ((x % 72057594037927936) * 251) ^ y
-}
 
 // A checksum with the numbers of a list.
 fn mix_list(x: u64, list: &[u64; 16384]) -> u64 {

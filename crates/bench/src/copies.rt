@@ -1,18 +1,8 @@
-// Exports for bench/lookups.
+// For bench/lookups.
+use crate::checksums::mix;
+use crate::checksums::wide16;
+use crate::checksums::wide32;
 use lookups::Counters;
-
-fn wide16(x: u16) -> u64 {
-    x as u64
-}
-
-fn wide32(x: u32) -> u64 {
-    x as u64
-}
-
-// A checksum with one more number.
-fn mix(x: u64, y: u64) -> u64 {
-    ((x % 72057594037927936) * 251) ^ y
-}
 
 // A checksum with the first three of a list of owners.
 fn mix_owners(x: u64, owners: &[u16; 8]) -> u64 {

@@ -1,4 +1,4 @@
-// Exports for bench/history.
+// For bench/history.
 use history::TranscriptAnswer;
 
 // Writes the transcript of a text into `out`, and answers how many bytes it has, 0 where it is refused.

@@ -1,8 +1,8 @@
--- `bench_lookups::bench_lookups_run` is safe and ends. The loop's invariant: `block` is at most `count`.
+-- `bench::copies::bench_lookups_run` is safe and ends. The loop's invariant: `block` is at most `count`.
 use Prim.Native.Nat.{_≤_, _-_}
 use borrow.Author.Needs.{needs}
-use Rattle.bench_lookups.proofs.bench_lookups_run.Statement.{statement}
-use Rattle.bench_lookups.proofs.bench_lookups_run.Tie as tie
+use Rattle.bench.proofs.copies.bench_lookups_run.Statement.{statement}
+use Rattle.bench.proofs.copies.bench_lookups_run.Tie as tie
 
 abbrev Inv-loop : tie.InvT-loop
 Inv-loop starts owners intervals devices range count counters₀ sum₀ block₀ counters sum block = block ≤ count

@@ -1,6 +1,6 @@
-// Exports for bench/sha1.
+// For bench/sha1.
 ghost use mathlib.Core.Path.{_≡_};
-ghost use Rattle.bench_sha1.specs.Many.{many};
+ghost use Rattle.bench.specs.Many.{many};
 
 // The first words of `count` one-block digests, xored: of the number i in eight bytes and its low byte in four.
 #[no_mangle]

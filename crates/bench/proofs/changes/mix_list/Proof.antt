@@ -1,8 +1,8 @@
--- `bench_changes::mix_list` is safe and ends. The loop's invariant: `i` is at most 16,384.
+-- `bench::changes::mix_list` is safe and ends. The loop's invariant: `i` is at most 16,384.
 use Prim.Native.Nat.{_≤_, _-_}
 use borrow.Author.Needs.{needs}
-use Rattle.bench_changes.proofs.mix_list.Statement.{statement}
-use Rattle.bench_changes.proofs.mix_list.Tie as tie
+use Rattle.bench.proofs.changes.mix_list.Statement.{statement}
+use Rattle.bench.proofs.changes.mix_list.Tie as tie
 
 abbrev Inv-loop : tie.InvT-loop
 Inv-loop x list sum₀ i₀ sum i = i ≤ 16384

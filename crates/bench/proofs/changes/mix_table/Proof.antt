@@ -1,8 +1,8 @@
--- `bench_changes::mix_table` is safe and ends. The loop's invariant: `i` is at most 4,096.
+-- `bench::changes::mix_table` is safe and ends. The loop's invariant: `i` is at most 4,096.
 use Prim.Native.Nat.{_≤_, _-_}
 use borrow.Author.Needs.{needs}
-use Rattle.bench_changes.proofs.mix_table.Statement.{statement}
-use Rattle.bench_changes.proofs.mix_table.Tie as tie
+use Rattle.bench.proofs.changes.mix_table.Statement.{statement}
+use Rattle.bench.proofs.changes.mix_table.Tie as tie
 
 abbrev Inv-loop : tie.InvT-loop
 Inv-loop x starts owners sum₀ i₀ sum i = i ≤ 4096
