@@ -1,4 +1,5 @@
-// The copies of one block, and of many.
+// The copies of one block, and of many. The pool of an image that was read is valid, so the lookups are those on
+// its arrays, which decide nothing again.
 use lookups::CopiesAnswer;
 use lookups::Counters;
 use lookups::copies_in;

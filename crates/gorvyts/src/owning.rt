@@ -1,4 +1,5 @@
-// The owner of a point.
+// The owner of a point. The pool of an image that was read is valid, so the lookup is the one on its arrays,
+// which decides nothing again.
 use crate::answers::put1;
 use lookups::OwnerAnswer;
 use lookups::owner_in;
