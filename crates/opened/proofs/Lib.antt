@@ -1,0 +1,2 @@
+pub mod RowNames
+pub mod OpenPools

@@ -1,0 +1,9 @@
+pub mod LabelSteps
+pub mod FirstDevices
+pub mod Merging
+pub mod NextTables
+pub mod Planning
+pub mod RaisedRows
+pub mod NextDevices
+pub mod MergedRows
+pub mod CallChecks

@@ -1,0 +1,11 @@
+pub mod Words
+pub mod Pushing
+pub mod CutSteps
+pub mod FillSteps
+pub mod JoinSteps
+pub mod CountSteps
+pub mod QuotaSteps
+pub mod EmptyPieces
+pub mod Labels
+pub mod Composition
+pub mod Renaming
