@@ -4,7 +4,7 @@
 --   line-begun, line-before   a change line after and before a range line
 --   fresh-inside       the fresh pool of numbers within their limits
 --   ranged-after, ranged-first   a range line after and before another
---   said-refused, said-as, said-applied   what a line says, applied, answers the line
+--   said-as, said-applied   what a line says, applied, answers the line
 use mathlib.Core.Path.{_≡_, refl, sym, ap, _∙_, subst}
 use mathlib.Core.Bool.{true, false}
 use mathlib.Core.List.{List, _∷_}
@@ -71,9 +71,6 @@ pub ranged-first : (h : History) (R M : ℕ) (a : PoolAnswer) → rangeOutside R
 ranged-first h R M a e f b = rw (b, fresh-inside R M a e f)
 
 -- ---- what the line says decides
-
-pub said-refused : (h : History) {l : LineAnswer} (n : ℕ) → l ≡ Refused n → Said h l (refused h n)
-said-refused h n e = subst (λ (l : LineAnswer). Said h l (refused h n)) (sym e) refl
 
 module _ (h : History) (r : LineResult) where
   pub said-as : {l m : LineAnswer} → l ≡ m → Said h m r → Said h l r

@@ -5,7 +5,8 @@ pub mod PrintedLines
 pub mod AppliedLines
 pub mod ReplayBounds
 pub mod ReplayParts
-pub mod ReplaySteps
+pub mod OpenReadings
+pub mod AdvancedLines
 pub mod Replaying
 pub mod PoolsLeft
 pub mod PrintedTables

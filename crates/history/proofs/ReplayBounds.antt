@@ -1,20 +1,26 @@
 -- How large the numbers are that a line gives.
 --
 --   moved-most, count-most     a change of a valid pool moves at most R points, in at most as many moves as the list has places
+--   Small r                    at most 2^32 points are moved, in at most 4,096 moves
+--   applied-small              a line on a valid pool
 use mathlib.Core.Path.{_≡_, refl}
+use mathlib.Core.Bool.{Bool, true, false, cond}
 use mathlib.Core.List.{List, [], _∷_}
 use Prim.Native.Nat.{ℕ, zero, suc, _≤_}
 use native.Mathlib.Omega.{arith}
-use lib.ListN.{length}
-use Rattle.slicing.specs.Changes.{State, Change, change}
+use lib.ListN.{length, length-replicate}
+use Rattle.slicing.specs.Changes.{State, Change, add, remove, resize, change}
 use Rattle.slicing.specs.Claims.{Claim, written}
 use Rattle.slicing.specs.Ledger.{Ledger, opened, feed}
 use Rattle.slicing.specs.Runs.{Run, _of_, total, intervals}
 use Rattle.slicing.specs.ShareRule.{shares}
-use Rattle.slicing.specs.SixSteps.{Move, reductions}
+use Rattle.slicing.specs.SixSteps.{Move, move, reductions}
 use Rattle.slicing.specs.Validity.{Valid}
 use Rattle.slicing.proofs.Claims.{claim-valid}
 use Rattle.slicing.proofs.ShareRule.{total-shares}
+use Rattle.history_lines.specs.declared.lines.LineAnswer.{LineAnswer}
+use Rattle.history_lines.specs.declared.lines.LineAnswer.the-variants.{Range, Add, Remove, Resize, Refused}
+use Rattle.history.specs.Replay.{Reading, Result, places, changed, applied}
 
 reductions-most : (has due : List (Run ℕ)) → reductions has due ≤ total has
 reductions-most [] due = omega arith
@@ -47,3 +53,31 @@ module _ (s : State) (v : Valid s) (lent : List Move) (k : Change) where
       go : (n : ℕ) → change s lent k .number ≡ n → change s lent k .moved ≤ s .range
       go zero e = found (length (s .devices)) refl e
       go (suc n) e = omega (arith, claim .refused (omega arith) .moved)
+
+pub record Small (r : Result) : Type 0 where
+  pub moved : r .moved ≤ 4294967296
+  pub count : r .count ≤ 4096
+
+small-either : (b : Bool) (r q : Result) → Small r → Small q → Small (cond b r q)
+small-either true r q f g = f
+small-either false r q f g = g
+
+none-small : {r : Result} → r .moved ≡ 0 → r .count ≡ 0 → Small r
+none-small e f = record { moved = omega arith; count = omega arith }
+
+module _ (h : Reading) (v : Valid (h .pool)) where
+  changed-small : (k : Change) → Small (changed h k)
+  changed-small k =
+      small-either (h .begun) _ _
+      (record {
+        moved = omega (arith, moved-most (h .pool) v places k, v .most);
+        count = omega (arith, count-most (h .pool) v places k, length-replicate 4096 (move 0 0 0 0));
+      })
+      (none-small refl refl)
+
+  pub applied-small : (l : LineAnswer) → Small (applied h l)
+  applied-small (Refused n) = none-small refl refl
+  applied-small (Range R M) = small-either (h .begun) _ _ (none-small refl refl) (none-small refl refl)
+  applied-small (Add d c) = changed-small (add d c)
+  applied-small (Remove d) = changed-small (remove d)
+  applied-small (Resize d c) = changed-small (resize d c)

@@ -1,3 +1,4 @@
 pub mod Replay
 pub mod Histories
 pub mod Promises
+pub mod Advances

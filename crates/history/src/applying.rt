@@ -113,7 +113,7 @@ fn changed(history: History, call: Call) -> LineResult
 }
 
 // What a line says, applied to a history.
-pub fn applied(history: History, said: LineAnswer) -> LineResult
+fn applied(history: History, said: LineAnswer) -> LineResult
     ensures { λ r. ⌜ Said history said r ⌝ }
 {
     match said {

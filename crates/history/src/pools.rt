@@ -1,10 +1,12 @@
 // The pool that a history text leaves.
-use crate::applying::History;
-use crate::applying::applied;
+use crate::advancing::advance;
+use crate::advancing::fresh;
 use crate::transcripts::LONGEST;
 use history_lines::LineAnswer;
 use history_lines::part_at;
+use opening::close;
 use placement::PoolAnswer;
+use six_steps::runs::ROOM;
 ghost use Rattle.history.specs.Promises.{Left};
 
 // The pool that a history leaves, refused lines included. 2 for more than 65,536 bytes; then the pool has
@@ -12,12 +14,15 @@ ghost use Rattle.history.specs.Promises.{Left};
 pub fn pool_after(text: &[u8]) -> PoolAnswer
     ensures { λ r. ⌜ Left (now (text .entry)) r ⌝ }
 {
-    let mut history = History::new();
+    let mut table = [0u64; ROOM];
+    let mut work = [0u64; ROOM];
+    let mut next = [0u64; ROOM];
+    let mut begun = false;
+    let mut pool = fresh(1, 1);
     if text.len() > LONGEST {
-        let pool = history.pool;
         return PoolAnswer {
             refusal: 2,
-            pool: pool,
+            pool: close(pool, &table),
         };
     }
     let mut from = 0;
@@ -27,15 +32,15 @@ pub fn pool_after(text: &[u8]) -> PoolAnswer
         match said {
             LineAnswer::Refused(_) => from = part.next,
             _ => {
-                let result = applied(history, said);
-                history = result.history;
+                let step = advance(begun, pool, said, &mut table, &mut work, &mut next);
+                begun = step.begun;
+                pool = step.pool;
                 from = part.next;
             }
         }
     }
-    let pool = history.pool;
     PoolAnswer {
         refusal: 0,
-        pool: pool,
+        pool: close(pool, &table),
     }
 }

@@ -1,12 +1,13 @@
 // What `slices` prints of a history text.
-use crate::applying::History;
-use crate::applying::applied;
+use crate::advancing::advance;
+use crate::advancing::fresh;
 use history_lines::LineAnswer;
 use history_lines::part_at;
 use history_printing::put_line;
 use history_printing::put_rows;
 use history_printing::put_text;
 use history_printing::wide32;
+use opening::close;
 use placement::Pool;
 ghost use mathlib.Core.Path.{_≡_};
 ghost use mathlib.Core.List.{_++_};
@@ -47,13 +48,18 @@ fn put_table(out: &mut [u8], place: usize, pool: Pool) -> usize
     )
 }
 
-// Prints a history of at most 65,536 bytes.
+// Prints a history of at most 65,536 bytes. Its pool is opened from the first line to the last, and closed
+// for the table that is printed.
 fn replay(text: &[u8], out: &mut [u8]) -> usize
     requires { ⌜ (length (now text) ≤ 65536) × (3145728 ≤ length (now out)) ⌝ }
     ensures place { λ r. ⌜ r ≡ length (replayed (now (text .entry))) ⌝ }
     ensures text { λ r. ⌜ now (out .exit) ≡ replayed (now (text .entry)) ++ drop (length (replayed (now (text .entry)))) (now (out .entry)) ⌝ }
 {
-    let mut history = History::new();
+    let mut table = [0u64; six_steps::runs::ROOM];
+    let mut work = [0u64; six_steps::runs::ROOM];
+    let mut next = [0u64; six_steps::runs::ROOM];
+    let mut begun = false;
+    let mut pool = fresh(1, 1);
     let mut line = 1;
     let mut from = 0;
     let mut place = 0;
@@ -65,23 +71,23 @@ fn replay(text: &[u8], out: &mut [u8]) -> usize
                 place = put_line(&mut *out, place, line, wide32(refusal), 0, 0);
             }
             _ => {
-                let result = applied(history, said);
+                let step = advance(begun, pool, said, &mut table, &mut work, &mut next);
                 place = put_line(
                     &mut *out,
                     place,
                     line,
-                    wide32(result.refusal),
-                    result.moved,
-                    result.count as u64,
+                    wide32(step.refusal),
+                    step.moved,
+                    step.count as u64,
                 );
-                history = result.history;
+                begun = step.begun;
+                pool = step.pool;
             }
         }
         line += 1;
         from = part.next;
     }
-    let pool = history.pool;
-    put_table(&mut *out, place, pool)
+    put_table(&mut *out, place, close(pool, &table))
 }
 
 // Writes what `slices` prints of a text, and answers how many bytes. More than 65,536 bytes give `too

@@ -2,7 +2,7 @@
 --
 -- devices: open-few, open-rising, open-ids and open-capacities (bounds)
 -- intervals: open-length, open-intervals, open-points (their total), open-some (none is empty)
-use mathlib.Core.Path.{_≡_, refl, sym, ap, _∙_}
+use mathlib.Core.Path.{_≡_, refl, ap, _∙_}
 use mathlib.Core.Bool.{Bool}
 use mathlib.Core.List.{List}
 use mathlib.Core.Logic.{_⊎_, inl, inr}

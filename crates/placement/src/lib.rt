@@ -2,7 +2,7 @@
 // a list of flat numbers, for `move_lists`, which offers them, for `history` and for `gorvyts`. Every call
 // takes any numbers and any pool value; a refusal answers its number and zeros, and leaves pool and
 // list as they were.
-mod arrays;
+pub mod arrays;
 mod change;
 mod list;
 mod settle;

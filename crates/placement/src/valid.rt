@@ -18,7 +18,7 @@ ghost use Rattle.slicing_core.specs.Stages.{Below, Decides};
 ghost use Rattle.placement.specs.Pools.{ValidPool, Covered, Limited, Cleared};
 
 // Whether the numbers of a pool are within their limits.
-fn limited(pool: Pool) -> bool
+pub fn limited(pool: Pool) -> bool
     ensures { λ r. ⌜ Decides r (Limited pool) ⌝ }
 {
     let range = pool.range;

@@ -1,0 +1,4 @@
+pub mod ClosedPools
+pub mod RowSteps
+pub mod HeldRuns
+pub mod CheckedPools

@@ -1,0 +1,135 @@
+-- `opening::opening::open` meets its contract: each part of validity is decided by a call, and the arrays hold the pool's numbers.
+use mathlib.Core.Path.{_≡_, sym}
+use mathlib.Core.Bool.{true≢false}
+use Prim.Native.Nat.{ℕ, _≤_}
+use native.Mathlib.Omega.{arith}
+use lib.ListN.{length, length-replicate}
+use borrow.Author.Needs.{needs}
+use borrow.Author.Tests.{not-true, not-false}
+use Rattle.placement.specs.declared.Pool.{Pool}
+use Rattle.placement.specs.Pools.{Widened}
+use Rattle.opening.specs.Tables.{Formed}
+use Rattle.opening.proofs.CheckedPools.{valid-formed, valid-refused, wide-rising, wide-ascending, empty-valid, empty-opened, rows-labels, rows-points, rows-valid, rows-opened}
+use Rattle.opening.proofs.opening.open.Statement.{statement}
+use Rattle.opening.proofs.opening.open.Tie as tie
+
+abbrev widened : tie.After-formed → tie.After-widen
+widened c = c .before .before .before .before .before .before
+
+abbrev start : tie.After-widen → tie.Start
+start c = c .before .before .before .before .before .before .before
+
+abbrev pool : tie.After-formed → Pool
+pool c = start (widened c) .args .pool
+
+ids : (c : tie.After-formed) → Widened (pool c .ids) 65536 256 (widened c .widen .last .0)
+ids c = widened c .widen .ensures .0
+
+capacities : (c : tie.After-formed) → Widened (pool c .capacities) 4294967296 256 (widened c .widen .last .1 .0)
+capacities c = widened c .widen .ensures .1
+
+starts-size : (s : tie.Start) → length (s .args .pool .starts) ≡ 4096
+starts-size s = search needs
+
+owners-size : (s : tie.Start) → length (s .args .pool .owners) ≡ 4096
+owners-size s = search needs
+
+is-formed : (c : tie.Else1) → Formed (pool (c .before))
+is-formed c = rw (not-false (c .before .formed .result) (c .if1 .left)) at (c .before .formed .ensures)
+
+returns : tie.Need-returns
+returns c = (
+  λ v. (rw (not-true (c .before .formed .result) (c .if1 .taken)) at (c .before .formed .ensures)) (valid-formed _ v),
+  (λ e. absurd (true≢false (sym e)), start (widened (c .before)) .pre),
+)
+
+returns-2 : tie.Need-returns-2
+returns-2 c =
+    let f = c .before .before in
+    let s = start (widened f) in (
+      empty-valid (pool f) (ids f) (capacities f) (starts-size s) (owners-size s) (is-formed (c .before)) (c .if2 .taken),
+      (
+        λ e. empty-opened (pool f) (ids f) (capacities f) (starts-size s) (owners-size s) (is-formed (c .before)) _ _ (c .if2 .taken)
+            (length-replicate {A = ℕ} 256 0) (s .pre),
+        s .pre,
+      ),
+    )
+
+abbrev some : tie.After-rows-of → tie.Else2
+some c = c .before .before .before .before .before .before .before
+
+few : (c : tie.Else1) → pool (c .before) .intervals ≤ 4096
+few c = omega (arith, is-formed c .limited .fits, is-formed c .limited .roomMost)
+
+rows-of-requires : tie.Need-rows-of-requires
+rows-of-requires c κs =
+    let e = c .before .before .before .before .before .before .before in
+    let f = e .before in
+    let m = is-formed e .limited in
+    (few e, m .some, m .most, m .few, wide-ascending (pool f) (ids f) (capacities f) (is-formed e), start (widened f) .pre)
+
+returns-3 : tie.Need-returns-3
+returns-3 c =
+    let e = some (c .before) in
+    let f = e .before .before in (
+      valid-refused (pool f) (ids f) (capacities f) (omega (arith, e .if2 .left))
+          (rw (not-true (c .before .rows-of .result) (c .if3 .taken)) at (c .before .rows-of .ensures .0)),
+      (λ z. absurd (true≢false (sym z)), c .before .rows-of .ensures .1),
+    )
+
+held-requires : tie.Need-held-requires
+held-requires c κs =
+    let rowed = c .before in
+    let r = rw (not-false (rowed .before .rows-of .result) (rowed .if3 .left)) at (rowed .before .rows-of .ensures .0) in
+    let e = some (rowed .before) .before in
+    (few e, rows-labels r (is-formed e .limited .few), rows-points r (is-formed e .limited .most))
+
+shares-requires : tie.Need-shares-requires
+shares-requires c κs =
+    let e = some (c .before .before .before .before .before) in
+    let f = e .before .before in
+    let m = is-formed (e .before) in
+    (omega (arith, e .if2 .left), m .limited .few, m .limited .most, wide-rising (pool f) (ids f) (capacities f) m)
+
+same-requires : tie.Need-same-requires
+same-requires c κs = is-formed (some (c .before .before .before .before .before .before .before .before) .before) .limited .few
+
+returns-4 : tie.Need-returns-4
+returns-4 c =
+    let shared = c .before .before .before in
+    let summed = shared .before .before .before in
+    let rowed = summed .before .before in
+    let e = some (rowed .before) in
+    let f = e .before .before in
+    let s = start (widened f) in
+    let r = rw (not-false (rowed .before .rows-of .result) (rowed .if3 .left)) at (rowed .before .rows-of .ensures .0) in
+    let room = rowed .before .rows-of .ensures .1 in (
+      rows-valid (pool f) (ids f) (capacities f) (starts-size s) (owners-size s) (is-formed (e .before)) (omega (arith, e .if2 .left)) (summed .held .result)
+          (shared .shares .result) _ r (summed .held .ensures .0) (shared .shares .ensures .0) (c .same .result) (c .same .ensures),
+      (
+        rows-opened (pool f) (ids f) (capacities f) (starts-size s) (owners-size s) (is-formed (e .before)) (omega (arith, e .if2 .left)) (summed .held .result)
+            (shared .shares .result) _ r (summed .held .ensures .0) (shared .shares .ensures .0) (c .same .result) (c .same .ensures) (summed .held .ensures .1)
+            room,
+        room,
+      ),
+    )
+
+pub open-spec : {M : Type 1} → statement M
+open-spec =
+    tie.close
+    (tie.spec
+    (λ c. search needs)
+    (λ c. search needs)
+    (λ c. search needs)
+    (λ c. search needs)
+    (λ c κs. search needs)
+    (λ c. search needs)
+    (λ c κs. search needs)
+    returns
+    returns-2
+    rows-of-requires
+    returns-3
+    held-requires
+    shares-requires
+    same-requires
+    returns-4)
