@@ -1,5 +1,6 @@
 -- The calls for copies: what they leave, from what the calls beneath them answered.
 --
+-- answered-by (what a block's answer leaves)
 -- one block: one-tally, one-row (no room for the tally, for the row), one-refused (a refused image), one-copied
 -- many blocks: many-tally, many-rows, many-refused, many-copied
 use mathlib.Core.Path.{_≡_, refl, sym, ap, _∙_}
@@ -16,7 +17,7 @@ use Rattle.lookups.specs.Promises.{Answered, CopiedIn}
 use Rattle.lookups.specs.declared.CopiesAnswer.{CopiesAnswer}
 use Rattle.lookups.specs.declared.Counters.{Counters}
 use Rattle.images.specs.Promises.{ReadAs}
-use Rattle.gorvyts.specs.Promises.{Copied, outcomeOf, countersIn, tallyOf, countedBy, copiedAs, CopiedOne, rowsFor, countedFor, CopiedMany}
+use Rattle.gorvyts.specs.Promises.{Copied, outcomeOf, countersIn, tallyOf, countedBy, copiedBy, CopiedOne, rowsFor, countedFor, CopiedMany}
 use Rattle.gorvyts.proofs.CopiedRows.{answered-arrays, rowIn-answered}
 use Rattle.gorvyts.proofs.OnImages.{on-image-refused, on-image-accepted, on-image-valid}
 
@@ -26,11 +27,10 @@ left-same e f g = rw (e, f, g)
 
 -- ---- one block
 
-answered-as : (s : State) (block k : ℕ) (t t' w w' : List ℕ) (c : Counters) (r : CopiesAnswer) → Answered (outcomeOf s k block) c r → c ≡ countersIn t
+pub answered-by : (u : Outcome) (t t' w w' : List ℕ) (c : Counters) (r : CopiesAnswer) → Answered u c r → c ≡ countersIn t
     → w' ≡ r .refusal ∷ r .owners ++ r .probes ∷ drop 10 w → t' ≡ tallyOf (r .counters) t
-    → record { number = r .refusal; tally = t'; rows = w' } ≡ copiedAs block k t w s
-answered-as s block k t t' w w' c r a e f g =
-    let u : Outcome = outcomeOf s k block in
+    → record { number = r .refusal; tally = t'; rows = w' } ≡ copiedBy t w u
+answered-by u t t' w w' c r a e f g =
     left-same (a .number) (g ∙ ap (λ d. tallyOf d t) (a .counters ∙ ap (countedBy u) e))
     (f ∙ sym (append-snoc (r .refusal ∷ r .owners) (r .probes) (drop 10 w)) ∙ ap (λ row. row ++ drop 10 w) (rowIn-answered u c r a))
 
@@ -59,7 +59,7 @@ module _ (xs : List ℕ) (block k : ℕ) (t w : List ℕ) where
       noRow = λ h. absurd (omega (arith, h, m));
       room = λ p q.
           on-image-accepted xs _ _ _ made i z
-          (answered-as (stateOf (made .pool)) block k t t' w w' c r (answered-arrays (made .pool) (on-image-valid xs made i z) block k c r a) e f g);
+          (answered-by (outcomeOf (stateOf (made .pool)) k block) t t' w w' c r (answered-arrays (made .pool) (on-image-valid xs made i z) block k c r a) e f g);
     }
 
 -- ---- many blocks

@@ -5,3 +5,5 @@ pub mod ToldOwners
 pub mod MovedLists
 pub mod CopiedRows
 pub mod CopiedCalls
+pub mod OpenedPools
+pub mod OpenedLookups

@@ -1,6 +1,8 @@
 -- The call for the owner of a point: what it leaves, from what the calls beneath it answered.
 --
--- owned-short (no place for the answer), owned-refused (a refused image), owned-owner, owned-none (what the lookup answers)
+-- found-state (an owner looked up in the arrays of a valid pool is the state's)
+-- told-owner, told-none (an answer put into its place)
+-- owned-short (no place for the answer), owned-refused (a refused image), owned-told (what the lookup answers)
 use mathlib.Core.Path.{_≡_, refl, sym, ap, _∙_}
 use mathlib.Core.List.{List, _∷_}
 use Prim.Native.Nat.{ℕ, _≤_, _<_}
@@ -20,16 +22,23 @@ use Rattle.gorvyts.specs.Promises.{Told, ownerTold, Owned}
 use Rattle.gorvyts.proofs.OnImages.{on-image-refused, on-image-accepted, on-image-valid}
 
 -- what a lookup on the arrays of a pool answers
-abbrev Found : Pool → ℕ → OwnerAnswer → Type 0
+abbrev pub Found : Pool → ℕ → OwnerAnswer → Type 0
 Found p = LookedIn (p .starts) (p .owners) (p .intervals) (p .devices) (p .range)
 
 -- the devices of a pool are those of its state
-found-state : (p : Pool) (x : ℕ) (w : OwnerAnswer) → ValidPool p → Found p x w
+pub found-state : (p : Pool) (x : ℕ) (w : OwnerAnswer) → ValidPool p → Found p x w
     → w ≡ ownerAnswer (stateOf p .range) (length (stateOf p .devices)) x (ownerAt (stateOf p .table) x)
 unfolding stateOf
 found-state p x w v h =
     looked-in p v x w h .valid v
     ∙ ap (λ (n : ℕ). ownerAnswer (p .range) n x (ownerAt (stateOf p .table) x)) (sym (length-deviceRows (p .ids) (p .capacities) 0 (p .devices)))
+
+module _ (a : List ℕ) (w : OwnerAnswer) where
+  pub told-owner : (d : ℕ) (a' : List ℕ) → w ≡ Owner d → a' ≡ d ∷ drop 1 a → record { number = 0; answer = a' } ≡ ownerTold a w
+  told-owner d a' e k = rw (e, k)
+
+  pub told-none : (n : ℕ) (a' : List ℕ) → w ≡ Refused n → a' ≡ 0 ∷ drop 1 a → record { number = n; answer = a' } ≡ ownerTold a w
+  told-none n a' e k = rw (e, k)
 
 module _ (xs : List ℕ) (x : ℕ) (a : List ℕ) where
   pub owned-short : length a < 1 → Owned xs x a (record { number = 17; answer = a })
@@ -42,16 +51,8 @@ module _ (xs : List ℕ) (x : ℕ) (a : List ℕ) where
       room = λ h. on-image-refused xs _ _ _ made i z (rw e);
     }
 
-    owned-told : (w : OwnerAnswer) (r : Told) → made .refusal ≤ 0 → Found (made .pool) x w → r ≡ ownerTold a w → Owned xs x a r
+    pub owned-told : (w : OwnerAnswer) (r : Told) → made .refusal ≤ 0 → Found (made .pool) x w → r ≡ ownerTold a w → Owned xs x a r
     owned-told w r z h e = record {
       short = λ k. absurd (omega (arith, l, k));
       room = λ k. on-image-accepted xs _ _ r made i z (e ∙ ap (ownerTold a) (found-state (made .pool) x w (on-image-valid xs made i z) h));
     }
-
-    pub owned-owner : (w : OwnerAnswer) (d : ℕ) (a' : List ℕ) → made .refusal ≤ 0 → Found (made .pool) x w → w ≡ Owner d → a' ≡ d ∷ drop 1 a
-        → Owned xs x a (record { number = 0; answer = a' })
-    owned-owner w d a' z h e k = owned-told w _ z h (rw (e, k))
-
-    pub owned-none : (w : OwnerAnswer) (n : ℕ) (a' : List ℕ) → made .refusal ≤ 0 → Found (made .pool) x w → w ≡ Refused n → a' ≡ 0 ∷ drop 1 a
-        → Owned xs x a (record { number = n; answer = a' })
-    owned-none w n a' z h e k = owned-told w _ z h (rw (e, k))

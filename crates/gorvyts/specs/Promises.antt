@@ -8,10 +8,12 @@
 --   Moved, movedAs          what a change leaves; from the state that its image gives
 --   Told, ownerTold         what the call for an owner leaves; from its answer
 --   Copied, rowOf, tallied  what a call for copies leaves; the ten numbers of an outcome; the tally afterwards
+--   Opened, openedAs        what opening an image leaves; from the state that the image gives
+--   OwnedIn, CopiedOneIn    the lookups on the arrays of an opened pool, of any contents
 use mathlib.Core.Path.{_≡_}
 use mathlib.Core.Bool.{true, false, cond, _||_}
 use mathlib.Core.List.{List, [], _∷_, _++_}
-use Prim.Native.Nat.{ℕ, _*_, _/_, _≤_, _<_}
+use Prim.Native.Nat.{ℕ, _*_, _/_, _≤_, _<_, min}
 use lib.Dec.{eqb, ltb}
 use lib.ListN.{length, drop, replicate}
 use Rattle.slicing.specs.Changes.{State, fresh, Change, change}
@@ -19,8 +21,11 @@ use Rattle.slicing.specs.Claims.{written}
 use Rattle.slicing.specs.Limits.{maxRange, maxLimit, outside}
 use Rattle.slicing.specs.Runs.{ownerAt}
 use Rattle.slicing_core.specs.Rows.{at}
+use Rattle.placement.specs.Pools.{padded, startsOf, ownersOf}
 use Rattle.placement.specs.Promises.{movesIn, flat}
+use Rattle.lookup_core.specs.Halving.{ownerFound, clamped}
 use Rattle.lookup_core.specs.Probes.{pointOf}
+use Rattle.lookup_core.specs.Walks.{ownerOf}
 use Rattle.lookups.specs.Copies.{Outcome, copiesOf}
 use Rattle.lookups.specs.Counting.{counted}
 use Rattle.lookups.specs.Promises.{ownerAnswer}
@@ -150,10 +155,11 @@ abbrev pub countedBy : Outcome → Counters → Counters
 countedBy u c = cond (eqb (u .number) 0) (counted c (u .probes)) c
 
 -- one block
+abbrev pub copiedBy : List ℕ → List ℕ → Outcome → Copied
+copiedBy t w u = record { number = u .number; tally = tallyOf (countedBy u (countersIn t)) t; rows = rowOf u ++ drop 10 w }
+
 abbrev pub copiedAs : ℕ → ℕ → List ℕ → List ℕ → State → Copied
-copiedAs block k t w s =
-    let u = outcomeOf s k block in
-    record { number = u .number; tally = tallyOf (countedBy u (countersIn t)) t; rows = rowOf u ++ drop 10 w }
+copiedAs block k t w s = copiedBy t w (outcomeOf s k block)
 
 pub record CopiedOne (xs : List ℕ) (block k : ℕ) (t w : List ℕ) (r : Copied) : Type 0 where
   pub noTally : length t < 2 → r ≡ record { number = 17; tally = t; rows = w }
@@ -179,3 +185,48 @@ pub record CopiedMany (xs bs : List ℕ) (k : ℕ) (t w : List ℕ) (r : Copied)
   pub noRows : length w / 10 < length bs → r ≡ record { number = 17; tally = t; rows = w }
   pub room : 2 ≤ length t → length bs ≤ length w / 10
       → OnImage xs (λ n. record { number = n; tally = t; rows = w }) (manyAs bs k t w) r
+
+-- ---- an opened pool
+
+-- the number, the starts and the owners of the intervals, and three numbers (range, intervals, devices), all afterwards
+pub record Opened : Type 0 where
+  pub number : ℕ
+  pub starts : List ℕ
+  pub owners : List ℕ
+  pub numbers : List ℕ
+
+-- a refusal's number and zeros; the arrays stay
+abbrev pub unopened : ℕ → List ℕ → List ℕ → List ℕ → Opened
+unopened n s o m = record { number = n; starts = s; owners = o; numbers = 0 ∷ 0 ∷ 0 ∷ drop 3 m }
+
+-- the table in the first 4,096 places, those that it does not use 0; the places behind stay
+abbrev pub openedAs : List ℕ → List ℕ → List ℕ → State → Opened
+openedAs s o m t = record {
+  number = 0;
+  starts = padded 4096 (startsOf 0 (t .table)) ++ drop 4096 s;
+  owners = padded 4096 (ownersOf (t .table)) ++ drop 4096 o;
+  numbers = t .range ∷ length (t .table) ∷ length (t .devices) ∷ drop 3 m;
+}
+
+pub record OpenedFrom (xs s o m : List ℕ) (r : Opened) : Type 0 where
+  pub noStarts : length s < 4096 → r ≡ record { number = 17; starts = s; owners = o; numbers = m }
+  pub noOwners : length o < 4096 → r ≡ record { number = 17; starts = s; owners = o; numbers = m }
+  pub noNumbers : length m < 3 → r ≡ record { number = 17; starts = s; owners = o; numbers = m }
+  pub room : 4096 ≤ length s → 4096 ≤ length o → 3 ≤ length m → OnImage xs (λ n. unopened n s o m) (openedAs s o m) r
+
+-- arrays and numbers of any contents: 13, 10, or the owner that halving finds in them
+abbrev pub answerIn : List ℕ → List ℕ → List ℕ → ℕ → OwnerAnswer
+answerIn s o m x = ownerAnswer (at m 0) (at m 2) x (ownerFound s o (clamped (at m 1)) x)
+
+pub record OwnedIn (s o m : List ℕ) (x : ℕ) (a : List ℕ) (r : Told) : Type 0 where
+  pub short : length a < 1 → r ≡ record { number = 17; answer = a }
+  pub room : 1 ≤ length a → r ≡ ownerTold a (answerIn s o m x)
+
+-- arrays and numbers of any contents; a range above the largest is taken as the largest
+abbrev pub outcomeIn : List ℕ → List ℕ → List ℕ → ℕ → ℕ → Outcome
+outcomeIn s o m k block = copiesOf (ownerOf s o (at m 1) (min (at m 0) maxRange) block) (at m 2) k
+
+pub record CopiedOneIn (s o m : List ℕ) (block k : ℕ) (t w : List ℕ) (r : Copied) : Type 0 where
+  pub noTally : length t < 2 → r ≡ record { number = 17; tally = t; rows = w }
+  pub noRow : length w < 10 → r ≡ record { number = 17; tally = t; rows = w }
+  pub room : 2 ≤ length t → 10 ≤ length w → r ≡ copiedBy t w (outcomeIn s o m k block)

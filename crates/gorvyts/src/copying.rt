@@ -1,5 +1,6 @@
 // The copies of one block, and of many. The pool of an image that was read is valid, so the lookups are those on
 // its arrays, which decide nothing again.
+use crate::ROW;
 use lookups::CopiesAnswer;
 use lookups::Counters;
 use lookups::copies_in;
@@ -10,9 +11,6 @@ ghost use Prim.Native.Nat.{_+_, _*_, _/_, _≤_, _<_};
 ghost use lib.ListN.{length, take, drop, replicate};
 ghost use Rattle.placement.specs.Pools.{stateOf, ValidPool};
 ghost use Rattle.gorvyts.specs.Promises.{CopiedOne, CopiedMany, countersIn, tallyOf, rowsFor, countedFor};
-
-// The numbers of a row: the refusal number or 0, eight owners, the probes.
-const ROW: usize = 10;
 
 fn wide16(x: u16) -> u32
     ensures { λ r. ⌜ r ≡ x ⌝ }
@@ -33,7 +31,7 @@ fn put_owners(row: &mut [u32], owners: &[u16; 8])
 }
 
 // Puts an answer into the first row.
-fn put_row(row: &mut [u32], answer: CopiesAnswer)
+pub fn put_row(row: &mut [u32], answer: CopiesAnswer)
     requires { ⌜ 10 ≤ length (now row) ⌝ }
     ensures { λ r. ⌜ now (row .exit) ≡ answer .refusal ∷ answer .owners ++ answer .probes ∷ drop 10 (now (row .entry)) ⌝ }
 {
@@ -55,7 +53,7 @@ fn put_refusal(row: &mut [u32], refusal: u32)
 }
 
 // The counters of a tally.
-fn counters_of(tally: &[u32]) -> Counters
+pub fn counters_of(tally: &[u32]) -> Counters
     requires { ⌜ 2 ≤ length (now tally) ⌝ }
     ensures { λ r. ⌜ r ≡ countersIn (now (tally .entry)) ⌝ }
 {
@@ -65,7 +63,7 @@ fn counters_of(tally: &[u32]) -> Counters
     }
 }
 
-fn put_counters(tally: &mut [u32], counters: Counters)
+pub fn put_counters(tally: &mut [u32], counters: Counters)
     requires { ⌜ 2 ≤ length (now tally) ⌝ }
     ensures { λ r. ⌜ now (tally .exit) ≡ tallyOf counters (now (tally .entry)) ⌝ }
 {

@@ -8,6 +8,7 @@ mod answers;
 mod changes;
 mod copying;
 mod making;
+mod opening;
 mod owning;
 
 pub use changes::gorvyts_add;
@@ -19,4 +20,10 @@ pub use making::gorvyts_check;
 pub use making::gorvyts_fresh;
 pub use making::gorvyts_replay;
 pub use making::gorvyts_transcript;
+pub use opening::gorvyts_copies_in;
+pub use opening::gorvyts_open;
+pub use opening::gorvyts_owner_in;
 pub use owning::gorvyts_owner;
+
+// The numbers of a row of copies: the refusal number or 0, eight owners, the probes.
+const ROW: usize = 10;

@@ -3,7 +3,27 @@
 use crate::answers::put1;
 use lookups::OwnerAnswer;
 use lookups::owner_in;
-ghost use Rattle.gorvyts.specs.Promises.{Owned};
+ghost use mathlib.Core.Path.{_≡_};
+ghost use Prim.Native.Nat.{_≤_};
+ghost use lib.ListN.{length};
+ghost use Rattle.gorvyts.specs.Promises.{Owned, ownerTold};
+
+// Puts an owner, or 0 for a refusal, and gives the refusal number or 0.
+pub fn put_owner(answer: &mut [u64], found: OwnerAnswer) -> u32
+    requires { ⌜ 1 ≤ length (now answer) ⌝ }
+    ensures { λ r. ⌜ record { number = r; answer = now (answer .exit) } ≡ ownerTold (now (answer .entry)) found ⌝ }
+{
+    match found {
+        OwnerAnswer::Owner(id) => {
+            put1(&mut *answer, id);
+            0
+        }
+        OwnerAnswer::Refused(refusal) => {
+            put1(&mut *answer, 0);
+            refusal
+        }
+    }
+}
 
 // The owner of a point; answer: its id. 14 to 16 as of `gorvyts_check`; 13 where the point is at or above the
 // range, then 10 where no device is present.
@@ -30,14 +50,5 @@ pub extern "C" fn gorvyts_owner(image: &[u8], point: u64, answer: &mut [u64]) ->
         pool.range,
         point,
     );
-    match found {
-        OwnerAnswer::Owner(id) => {
-            put1(&mut *answer, id);
-            0
-        }
-        OwnerAnswer::Refused(refusal) => {
-            put1(&mut *answer, 0);
-            refusal
-        }
-    }
+    put_owner(&mut *answer, found)
 }

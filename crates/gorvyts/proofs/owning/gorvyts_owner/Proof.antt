@@ -1,6 +1,6 @@
 -- `gorvyts::owning::gorvyts_owner` meets its contract.
 use borrow.Author.Needs.{needs}
-use Rattle.gorvyts.proofs.ToldOwners.{owned-short, owned-refused, owned-owner, owned-none}
+use Rattle.gorvyts.proofs.ToldOwners.{owned-short, owned-refused, owned-told}
 use Rattle.gorvyts.proofs.owning.gorvyts_owner.Statement.{statement}
 use Rattle.gorvyts.proofs.owning.gorvyts_owner.Tie as tie
 
@@ -21,24 +21,12 @@ returns-2 c =
 returns-3 : tie.Need-returns-3
 returns-3 c =
     let put = c .before .before in
-    let v = put .before .before .before in
-    let o = v .before .before in
+    let o = put .before .before in
     let t = o .before .before .before .before .before .before in
     let r = t .before .before in
     let s = r .before .before .before .before in
-    owned-owner (s .args .image .now) (s .args .point) (s .args .answer .now) (r .read .result) (r .read .ensures) (r .before .if1 .left)
-    (o .owner-in .result) _ _ (t .if2 .left) (o .owner-in .ensures) (v .found .given .1) (put .put12 .ensures)
-
-returns-4 : tie.Need-returns-4
-returns-4 c =
-    let put = c .before .before in
-    let v = put .before .before .before in
-    let o = v .before .before in
-    let t = o .before .before .before .before .before .before in
-    let r = t .before .before in
-    let s = r .before .before .before .before in
-    owned-none (s .args .image .now) (s .args .point) (s .args .answer .now) (r .read .result) (r .read .ensures) (r .before .if1 .left)
-    (o .owner-in .result) _ _ (t .if2 .left) (o .owner-in .ensures) (v .found2 .given .1) (put .put13 .ensures)
+    owned-told (s .args .image .now) (s .args .point) (s .args .answer .now) (r .read .result) (r .read .ensures) (r .before .if1 .left)
+    (o .owner-in .result) _ (t .if2 .left) (o .owner-in .ensures) (put .put-owner .ensures)
 
 pub gorvyts-owner-spec : {M : Type 1} → statement M
 gorvyts-owner-spec =
@@ -50,11 +38,6 @@ gorvyts-owner-spec =
     (λ c. search needs)
     returns-2
     (λ c κs. search needs)
-    (λ c. search needs)
     (λ c κs. search needs)
     (λ c. search needs)
-    (λ c κs. search needs)
-    (λ c. search needs)
-    returns-3
-    (λ c. search needs)
-    returns-4)
+    returns-3)
