@@ -18,12 +18,7 @@ ghost use Rattle.gorvyts.specs.Promises.{OpenedFrom, OwnedIn, CopiedOneI
 const PLACES: usize = 4096;
 
 // Copies the starts and the owners of a table.
-fn copy_table(
-    from: &[u32; PLACES],
-    names: &[u16; PLACES],
-    starts: &mut [u32],
-    owners: &mut [u16],
-)
+fn copy_table(from: &[u32; PLACES], names: &[u16; PLACES], starts: &mut [u32], owners: &mut [u16])
     requires { ⌜ (length (now from) ≡ 4096) × (length (now names) ≡ 4096) × (4096 ≤ length (now starts)) × (4096 ≤ length (now owners)) ⌝ }
     ensures starts { λ r. ⌜ now (starts .exit) ≡ now (from .entry) ++ drop 4096 (now (starts .entry)) ⌝ }
     ensures owners { λ r. ⌜ now (owners .exit) ≡ now (names .entry) ++ drop 4096 (now (owners .entry)) ⌝ }
