@@ -11,33 +11,45 @@
 -- copies-found
 -- gorvyts_copies_of_many: many-no-tally (17), many-no-rows (17), many-unreadable (14, 15, 16), many-copied; a block's row: many-row,
 -- row-refused (10, 11, 12), row-found, row-length
+-- gorvyts_open: open-no-starts, open-no-owners, open-no-numbers (17), open-unreadable (14, 15, 16), open-image
+-- gorvyts_owner_in, on arrays of any contents: owner-in-no-place (17), owner-in-outside (13), owner-in-none (10), owner-in-told
+-- gorvyts_copies_in, on arrays of any contents: copies-in-no-tally, copies-in-no-row (17), copies-in-outside (11), copies-in-none (10),
+-- copies-in-few (12), copies-in-found
+-- after an accepted opening the lookups answer as those on its image: opened-image, opened-owner, opened-copies
 use mathlib.Core.Path.{_≡_, refl, sym, ap, _∙_}
-use mathlib.Core.Bool.{true, false, false≢true, true≢false}
+use mathlib.Core.Bool.{Bool, true, false, false≢true, true≢false}
 use mathlib.Core.List.{List, [], _∷_, _++_}
 use Prim.Native.Nat.{ℕ, zero, suc, _+_, _*_, _-_, _/_, _≤_, _<_, min}
 use native.Mathlib.Omega.{arith}
+use lib.Dec.{ltb}
 use lib.ListN.{length, take, drop, replicate, length-append}
 use lib.Seq.{take-append-seam, take-at, drop-append-add}
-use borrow.Author.Tests.{lt-ltb, le-ltb, le-leb, lt-leb, eq-eqb, ne-eqb}
+use borrow.Author.Tests.{lt-ltb, le-ltb, ltb-true, ltb-false, le-leb, lt-leb, eq-eqb, ne-eqb}
 use Rattle.slicing.specs.Changes.{State, fresh, Change}
 use Rattle.slicing.specs.Devices.{Device}
 use Rattle.slicing.specs.Runs.{Run, ownerAt}
 use Rattle.slicing.specs.SixSteps.{Move, points}
 use Rattle.slicing_core.specs.Rows.{at}
+use Rattle.placement.specs.Pools.{startsOf, ownersOf}
 use Rattle.placement.specs.Promises.{movesIn, flat}
+use Rattle.lookup_core.specs.Halving.{ownerFound}
 use Rattle.lookup_core.specs.Probes.{pointOf, choose}
 use Rattle.lookup_core.proofs.Choosing.{firsts}
+use Rattle.lookups.specs.Copies.{copiesOf}
+use Rattle.lookups.specs.Promises.{ownerAnswer}
 use Rattle.lookups.specs.declared.Counters.{Counters}
 use Rattle.images.specs.Format.{imageOf, versionIn, stateIn, marked, Sound, Image}
 use Rattle.images.proofs.ImageSizes.{length-imageOf}
 use Rattle.history.specs.Histories.{poolAfter}
 use Rattle.history.specs.Replay.{replayed, transcript}
-use Rattle.gorvyts.specs.Promises.{OnImage, unmarked, versioned, faulty, accepted, Checked, Stored, FreshStored, ReplayStored, Transcript, Moved, Changed, Told, Owned, Copied, outcomeOf, CopiedOne, rowOf, countersIn, tallyOf, countedBy, rowsFor, countedFor, CopiedMany}
+use Rattle.gorvyts.specs.Promises.{OnImage, unmarked, versioned, faulty, accepted, Checked, Stored, FreshStored, ReplayStored, Transcript, Moved, Changed, Told, ownerTold, Owned, Copied, outcomeOf, copiedBy, CopiedOne, rowOf, countersIn, tallyOf, countedBy, rowsFor, countedFor, CopiedMany, Opened, OpenedFrom, OwnedIn, CopiedOneIn}
+use Rattle.gorvyts.proofs.OpenedLookups as Opened
 use Rattle.guarantees.proofs.ChangeRules.{Stops, add-two, remove-two, resize-two, add-four, remove-five, resize-five, remove-seven, add-six, eight, nine, Passes, stops, passes}
 use Rattle.guarantees.proofs.Conditions.{Inside, two-inside, two-outside}
 use Rattle.guarantees.proofs.CopyRules.{NoCopies, eleven, ten, twelve, HasCopies, no-copies, has-copies, no-copies-number, length-owners}
 use Rattle.guarantees.proofs.Histories.{tooLongBytes}
 use Rattle.guarantees.proofs.Images.{Mark, marked-short, marked-other, marked-mark}
+use Rattle.guarantees.proofs.Lookups.{halvedIn}
 
 -- ---- images
 
@@ -213,6 +225,17 @@ Tells n answer r = (r .number ≡ n) × (r .answer ≡ answer)
 tells : {n : ℕ} {answer : List ℕ} {r : Told} → r ≡ record { number = n; answer = answer } → Tells n answer r
 tells e = (ap (λ s. s .number) e, ap (λ s. s .answer) e)
 
+-- range R, n devices, and d the owner of the point x if there is one
+module _ (R n x d : ℕ) (a : List ℕ) (r : Told) (e : r ≡ ownerTold a (ownerAnswer R n x d)) where
+  tells-outside : R ≤ x → Tells 13 (0 ∷ drop 1 a) r
+  tells-outside h = tells (e ∙ rw (le-leb R x h))
+
+  tells-none : x < R → n ≡ 0 → Tells 10 (0 ∷ drop 1 a) r
+  tells-none m h = tells (e ∙ rw (lt-leb R x m, eq-eqb n 0 h))
+
+  tells-owner : x < R → 1 ≤ n → Tells 0 (d ∷ drop 1 a) r
+  tells-owner m h = tells (e ∙ rw (lt-leb R x m, ne-eqb n 0 (λ z. omega (arith, z, h))))
+
 module _ (xs : List ℕ) (x : ℕ) (a : List ℕ) (r : Told) (k : Owned xs x a r) where
   pub owner-no-place : length a < 1 → Tells 17 a r
   owner-no-place h = tells (k .short h)
@@ -222,17 +245,18 @@ module _ (xs : List ℕ) (x : ℕ) (a : List ℕ) (r : Told) (k : Owned xs x a r
     owner-unreadable n h = tells (unread (k .room l) h)
 
     module _ (i : Image xs) where
+      abbrev owner : ℕ
+      owner = ownerAt (stateIn xs .table) x
+
       pub owner-outside : stateIn xs .range ≤ x → Tells 13 (0 ∷ drop 1 a) r
-      owner-outside h = tells (read (k .room l) i ∙ rw (le-leb (stateIn xs .range) x h))
+      owner-outside = tells-outside (stateIn xs .range) (length (stateIn xs .devices)) x owner a r (read (k .room l) i)
 
       module _ (m : x < stateIn xs .range) where
         pub owner-none : length (stateIn xs .devices) ≡ 0 → Tells 10 (0 ∷ drop 1 a) r
-        owner-none h = tells (read (k .room l) i ∙ rw (lt-leb (stateIn xs .range) x m, eq-eqb (length (stateIn xs .devices)) 0 h))
+        owner-none = tells-none (stateIn xs .range) (length (stateIn xs .devices)) x owner a r (read (k .room l) i) m
 
         pub owner-told : 1 ≤ length (stateIn xs .devices) → Tells 0 (ownerAt (stateIn xs .table) x ∷ drop 1 a) r
-        owner-told h =
-            tells (read (k .room l) i
-            ∙ rw (lt-leb (stateIn xs .range) x m, ne-eqb (length (stateIn xs .devices)) 0 (λ e. omega (arith, e, h))))
+        owner-told = tells-owner (stateIn xs .range) (length (stateIn xs .devices)) x owner a r (read (k .room l) i) m
 
 -- ---- copies: t the tally, w the rows of the answer
 
@@ -262,6 +286,14 @@ tally-same [] h = absurd (omega (arith, h))
 tally-same (x ∷ []) h = absurd (omega (arith, h))
 tally-same (x ∷ y ∷ t) h = refl
 
+-- n devices, and o t the owner of probe t
+module _ (o : ℕ → ℕ) (n k : ℕ) (t w : List ℕ) (r : Copied) (e : r ≡ copiedBy t w (copiesOf o n k)) where
+  copies-refused : 2 ≤ length t → {x p : ℕ} → NoCopies o n k x p → Copies x t (refusedRow x p ++ drop 10 w) r
+  copies-refused l {x} {p} h = copies-as (e ∙ rw (no-copies o n k h, ne-eqb x 0 (no-copies-number h), tally-same t l))
+
+  copies-chosen : HasCopies o n k → Copies 0 (countedTally t (choose o k .probes)) (foundRow o k ++ drop 10 w) r
+  copies-chosen h = copies-as (e ∙ rw (has-copies o n k h))
+
 module _ (xs : List ℕ) (block k : ℕ) (t w : List ℕ) (r : Copied) (c : CopiedOne xs block k t w r) where
   pub copies-no-tally : length t < 2 → Copies 17 t w r
   copies-no-tally h = copies-as (c .noTally h)
@@ -275,9 +307,7 @@ module _ (xs : List ℕ) (block k : ℕ) (t w : List ℕ) (r : Copied) (c : Copi
 
     module _ (i : Image xs) where
       refuses : {x p : ℕ} → NoCopies (ownersIn xs block) (length (stateIn xs .devices)) k x p → Copies x t (refusedRow x p ++ drop 10 w) r
-      refuses {x} {p} h =
-          copies-as (read (c .room l m) i
-          ∙ rw (no-copies (ownersIn xs block) (length (stateIn xs .devices)) k h, ne-eqb x 0 (no-copies-number h), tally-same t l))
+      refuses h = copies-refused (ownersIn xs block) (length (stateIn xs .devices)) k t w r (read (c .room l m) i) l h
 
       pub copies-outside : (Inside 8 k → ⊥) → Copies 11 t (refusedRow 11 0 ++ drop 10 w) r
       copies-outside h = refuses (eleven h)
@@ -293,8 +323,8 @@ module _ (xs : List ℕ) (block k : ℕ) (t w : List ℕ) (r : Copied) (c : Copi
           pub copies-found : k ≤ length (firsts (ownersIn xs block) 256)
               → Copies 0 (countedTally t (choose (ownersIn xs block) k .probes)) (foundRow (ownersIn xs block) k ++ drop 10 w) r
           copies-found h =
-              copies-as (read (c .room l m) i
-              ∙ rw (has-copies (ownersIn xs block) (length (stateIn xs .devices)) k (record { asked = j; some = some; enough = h })))
+              copies-chosen (ownersIn xs block) (length (stateIn xs .devices)) k t w r (read (c .room l m) i)
+              (record { asked = j; some = some; enough = h })
 
 -- ---- many blocks
 
@@ -349,3 +379,118 @@ many-row s k (b ∷ bs) zero l = take-at (rowOf (outcomeOf s k b)) (rowsFor s k 
 many-row s k (b ∷ bs) (suc j) l =
     let e : 10 * suc j ≡ length (rowOf (outcomeOf s k b)) + 10 * j = omega (arith, row-length s k b) in
     rw (e, drop-append-add) (many-row s k bs j (omega (arith, l)))
+
+-- ---- gorvyts_open: s the starts, o the owners, m the numbers
+
+abbrev pub Opens : ℕ → List ℕ → List ℕ → List ℕ → Opened → Type 0
+Opens n starts owners numbers r = (r .number ≡ n) × (r .starts ≡ starts) × (r .owners ≡ owners) × (r .numbers ≡ numbers)
+
+opens : {n : ℕ} {starts owners numbers : List ℕ} {r : Opened} → r ≡ record { number = n; starts = starts; owners = owners; numbers = numbers }
+    → Opens n starts owners numbers r
+opens e = (ap (λ q. q .number) e, ap (λ q. q .starts) e, ap (λ q. q .owners) e, ap (λ q. q .numbers) e)
+
+module _ (xs s o m : List ℕ) (r : Opened) (k : OpenedFrom xs s o m r) where
+  -- too few places: everything as lent
+  pub open-no-starts : length s < 4096 → Opens 17 s o m r
+  open-no-starts h = opens (k .noStarts h)
+
+  pub open-no-owners : length o < 4096 → Opens 17 s o m r
+  open-no-owners h = opens (k .noOwners h)
+
+  pub open-no-numbers : length m < 3 → Opens 17 s o m r
+  open-no-numbers h = opens (k .noNumbers h)
+
+  module _ (l : 4096 ≤ length s) (i : 4096 ≤ length o) (j : 3 ≤ length m) where
+    -- the arrays stay
+    pub open-unreadable : (n : ℕ) → Unreadable xs n → Opens n s o (0 ∷ 0 ∷ 0 ∷ drop 3 m) r
+    open-unreadable n h = opens (unread (k .room l i j) h)
+
+    -- the starts and the owners of the intervals, then zeros up to place 4,096
+    pub open-image : Image xs
+        → let rs = stateIn xs .table in
+        Opens 0 ((startsOf 0 rs ++ replicate (4096 - length (startsOf 0 rs)) 0) ++ drop 4096 s)
+        ((ownersOf rs ++ replicate (4096 - length (ownersOf rs)) 0) ++ drop 4096 o)
+        (stateIn xs .range ∷ length rs ∷ length (stateIn xs .devices) ∷ drop 3 m) r
+    open-image h = opens (read (k .room l i j) h)
+
+-- ---- gorvyts_owner_in: arrays s and o and numbers m of any contents
+
+module _ (s o m : List ℕ) (x : ℕ) (a : List ℕ) (r : Told) (k : OwnedIn s o m x a r) where
+  pub owner-in-no-place : length a < 1 → Tells 17 a r
+  owner-in-no-place h = tells (k .short h)
+
+  module _ (l : 1 ≤ length a) where
+    abbrev found : ℕ
+    found = ownerFound s o (min (at m 1) 4096) x
+
+    pub owner-in-outside : at m 0 ≤ x → Tells 13 (0 ∷ drop 1 a) r
+    owner-in-outside = tells-outside (at m 0) (at m 2) x found a r (k .room l)
+
+    module _ (j : x < at m 0) where
+      pub owner-in-none : at m 2 ≡ 0 → Tells 10 (0 ∷ drop 1 a) r
+      owner-in-none = tells-none (at m 0) (at m 2) x found a r (k .room l) j
+
+      pub owner-in-told : 1 ≤ at m 2 → Tells 0 (ownerFound s o (min (at m 1) 4096) x ∷ drop 1 a) r
+      owner-in-told = tells-owner (at m 0) (at m 2) x found a r (k .room l) j
+
+-- ---- gorvyts_copies_in: arrays s and o and numbers m of any contents
+
+module _ (s o m : List ℕ) (block k : ℕ) (t w : List ℕ) (r : Copied) (c : CopiedOneIn s o m block k t w r) where
+  abbrev probed : ℕ → ℕ
+  probed = halvedIn s o (at m 1) (at m 0) block
+
+  pub copies-in-no-tally : length t < 2 → Copies 17 t w r
+  copies-in-no-tally h = copies-as (c .noTally h)
+
+  pub copies-in-no-row : length w < 10 → Copies 17 t w r
+  copies-in-no-row h = copies-as (c .noRow h)
+
+  module _ (l : 2 ≤ length t) (j : 10 ≤ length w) where
+    pub copies-in-outside : (Inside 8 k → ⊥) → Copies 11 t (refusedRow 11 0 ++ drop 10 w) r
+    copies-in-outside h = copies-refused probed (at m 2) k t w r (c .room l j) l (eleven h)
+
+    module _ (i : Inside 8 k) where
+      pub copies-in-none : at m 2 ≡ 0 → Copies 10 t (refusedRow 10 0 ++ drop 10 w) r
+      copies-in-none h = copies-refused probed (at m 2) k t w r (c .room l j) l (ten i h)
+
+      module _ (some : 1 ≤ at m 2) where
+        pub copies-in-few : length (firsts probed 256) < k → Copies 12 t (refusedRow 12 256 ++ drop 10 w) r
+        copies-in-few h = copies-refused probed (at m 2) k t w r (c .room l j) l (twelve i some h)
+
+        pub copies-in-found : k ≤ length (firsts probed 256)
+            → Copies 0 (countedTally t (choose probed k .probes)) (foundRow probed k ++ drop 10 w) r
+        copies-in-found h =
+            copies-chosen probed (at m 2) k t w r (c .room l j) (record { asked = i; some = some; enough = h })
+
+-- ---- after an accepted opening
+
+one-told : {xs : List ℕ} {x : ℕ} {a : List ℕ} {q q' : Told} → Image xs → Owned xs x a q → Owned xs x a q' → q ≡ q'
+one-told {xs} {x} {a} {q} {q'} i h h' = go (ltb (length a) 1) refl
+  where
+    go : (b : Bool) → ltb (length a) 1 ≡ b → q ≡ q'
+    go true e = let l = ltb-true (length a) 1 e in h .short l ∙ sym (h' .short l)
+    go false e = let l = ltb-false (length a) 1 e in read (h .room l) i ∙ sym (read (h' .room l) i)
+
+one-copied : {xs : List ℕ} {block k : ℕ} {t w : List ℕ} {q q' : Copied} → Image xs → CopiedOne xs block k t w q → CopiedOne xs block k t w q' → q ≡ q'
+one-copied {xs} {block} {k} {t} {w} {q} {q'} i h h' = go (ltb (length t) 2) (ltb (length w) 10) refl refl
+  where
+    go : (b c : Bool) → ltb (length t) 2 ≡ b → ltb (length w) 10 ≡ c → q ≡ q'
+    go true c e f = let l = ltb-true (length t) 2 e in h .noTally l ∙ sym (h' .noTally l)
+    go false true e f = let l = ltb-true (length w) 10 f in h .noRow l ∙ sym (h' .noRow l)
+    go false false e f =
+        let l = ltb-false (length t) 2 e in
+        let j = ltb-false (length w) 10 f in
+        read (h .room l j) i ∙ sym (read (h' .room l j) i)
+
+-- a lookup sees the first 4,096 places of the arrays and the three numbers; q' is what the call on the image leaves
+module _ (xs s o m : List ℕ) (r : Opened) (h : OpenedFrom xs s o m r) (z : r .number ≡ 0) where
+  pub opened-image : Image xs
+  opened-image = Opened.opened-image xs s o m r h z
+
+  pub opened-owner : (x : ℕ) (a : List ℕ) (q q' : Told)
+      → OwnedIn (take 4096 (r .starts)) (take 4096 (r .owners)) (take 3 (r .numbers)) x a q → Owned xs x a q' → q ≡ q'
+  opened-owner x a q q' k = one-told opened-image (Opened.opened-owned xs s o m r h z x a q k)
+
+  pub opened-copies : (block k : ℕ) (t w : List ℕ) (q q' : Copied)
+      → CopiedOneIn (take 4096 (r .starts)) (take 4096 (r .owners)) (take 3 (r .numbers)) block k t w q → CopiedOne xs block k t w q' → q ≡ q'
+  opened-copies block k t w q q' c = one-copied opened-image (Opened.opened-copied xs s o m r h z block k t w q c)
