@@ -1,4 +1,4 @@
-/* Replays a history, asks for owners and copies, adds a device and lists the moves. */
+/* Replays a history, asks for owners and copies, also of the opened pool, adds a device and lists the moves. */
 #include <inttypes.h>
 #include <stdio.h>
 #include <string.h>
@@ -18,6 +18,7 @@ static uint8_t image[GORVYTS_IMAGE_MOST];
 static uint8_t next[GORVYTS_IMAGE_MOST];
 static uint8_t out[GORVYTS_TRANSCRIPT_ROOM];
 static uint64_t list[4 * GORVYTS_MOVES_MOST];
+static struct gorvyts_pool pool;
 
 static const char *sentence(uint32_t number)
 {
@@ -52,6 +53,17 @@ int main(void)
     }
 
     if (gorvyts_copies(image, length, 7, 2, tally, 2, row, 10) != 0)
+        return 1;
+    printf("block 7: devices %" PRIu32 " and %" PRIu32 ", probes %" PRIu32 "\n", row[1], row[2], row[9]);
+    printf("tally: lookups %" PRIu32 ", probes %" PRIu32 "\n", tally[0], tally[1]);
+
+    if (gorvyts_pool_open(&pool, image, length) != 0)
+        return 1;
+    printf("opened: range %" PRIu64 ", %" PRIu64 " intervals, %" PRIu64 " devices\n",
+           pool.numbers[0], pool.numbers[1], pool.numbers[2]);
+    number = gorvyts_pool_owner(&pool, 25, answer);
+    printf("point 25: %" PRIu32 ", device %" PRIu64 "\n", number, answer[0]);
+    if (gorvyts_pool_copies(&pool, 7, 2, tally, row) != 0)
         return 1;
     printf("block 7: devices %" PRIu32 " and %" PRIu32 ", probes %" PRIu32 "\n", row[1], row[2], row[9]);
     printf("tally: lookups %" PRIu32 ", probes %" PRIu32 "\n", tally[0], tally[1]);

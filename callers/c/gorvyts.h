@@ -17,9 +17,10 @@
  * gorvyts_transcript 1,730, gorvyts_owner 810, gorvyts_check and the lookups of copies 790, gorvyts_fresh
  * 750. A thread of 1 MB is too small for a change: it ends the process.
  *
- * Cost: every call reads and checks its whole image, which takes far longer than the lookup itself; a
+ * Cost: every call on an image reads and checks all of it, which takes far longer than the lookup itself; a
  * single gorvyts_owner or gorvyts_copies takes as long as some hundred blocks of gorvyts_copies_of_many,
- * which checks its image once.
+ * which checks its image once. For many lookups of one pool, gorvyts_open checks the image once and leaves
+ * the pool in memory of the caller's; gorvyts_owner_in and gorvyts_copies_in then only search.
  *
  * Threads: no call keeps or shares anything but the buffers lent to it, so calls may run at the same time
  * on buffers of their own. Buffers that are only read (image, text, blocks) may be shared. A tally that
@@ -106,6 +107,56 @@ uint32_t gorvyts_copies(const uint8_t *image, size_t image_size, uint64_t block,
  * Refused as a whole, it leaves rows and tally: no row holds the number then. */
 uint32_t gorvyts_copies_of_many(const uint8_t *image, size_t image_size, const uint64_t *blocks, size_t blocks_size, uint64_t k,
                                 uint32_t *tally, size_t tally_size, uint32_t *rows, size_t rows_size);
+
+/* An opened pool: arrays of GORVYTS_PLACES places, and three numbers. The calls on it take any contents: what
+ * gorvyts_open left of an accepted image gives the answers of gorvyts_owner and gorvyts_copies on that image;
+ * other contents give some answer, and nothing outside the arrays is read. */
+#define GORVYTS_PLACES 4096
+
+/* Reads and checks an image. starts, owners: of each interval in the order of the table, its first point and the
+ * device that owns it, then zeros up to GORVYTS_PLACES places; numbers[0]: the range, numbers[1]: the
+ * intervals, numbers[2]: the devices. Places past these stay.
+ * Refusals: 17 where starts or owners have under GORVYTS_PLACES places or the numbers under 3, then nothing is
+ * stored; 14, 15, 16, then the three numbers are zeros and the arrays stay. */
+uint32_t gorvyts_open(const uint8_t *image, size_t image_size, uint32_t *starts, size_t starts_size,
+                      uint16_t *owners, size_t owners_size, uint64_t *numbers, size_t numbers_size);
+
+/* The owner of a point of an opened pool, as gorvyts_owner gives it. starts and owners point to GORVYTS_PLACES
+ * elements, numbers to 3; all of them are only read.
+ * Refusals: 13, 10, 17. */
+uint32_t gorvyts_owner_in(const uint32_t *starts, const uint16_t *owners, const uint64_t *numbers,
+                          uint64_t point, uint64_t *answer, size_t answer_size);
+
+/* The copies of a block of an opened pool, as gorvyts_copies gives them; arrays as of gorvyts_owner_in. A range above
+ * 4,294,967,296, which no image has, is taken as that.
+ * Refusals: 11, 10, 12; 17 where the tally has under 2 places or the row under 10. */
+uint32_t gorvyts_copies_in(const uint32_t *starts, const uint16_t *owners, const uint64_t *numbers,
+                           uint64_t block, uint64_t k, uint32_t *tally, size_t tally_size, uint32_t *row, size_t row_size);
+
+/* The memory of an opened pool, 24 KB, and the same calls on it. */
+struct gorvyts_pool {
+    uint32_t starts[GORVYTS_PLACES];
+    uint16_t owners[GORVYTS_PLACES];
+    uint64_t numbers[3];
+};
+
+/* Refusals: 14, 15, 16; then every lookup is refused too, an owner with 13, copies with 11 or 10. */
+static inline uint32_t gorvyts_pool_open(struct gorvyts_pool *pool, const uint8_t *image, size_t image_size)
+{
+    return gorvyts_open(image, image_size, pool->starts, GORVYTS_PLACES, pool->owners, GORVYTS_PLACES, pool->numbers, 3);
+}
+
+/* owner: one number, the id. Refusals: 13, 10. */
+static inline uint32_t gorvyts_pool_owner(const struct gorvyts_pool *pool, uint64_t point, uint64_t *owner)
+{
+    return gorvyts_owner_in(pool->starts, pool->owners, pool->numbers, point, owner, 1);
+}
+
+/* tally: two numbers; row: ten. Refusals: 11, 10, 12. */
+static inline uint32_t gorvyts_pool_copies(const struct gorvyts_pool *pool, uint64_t block, uint64_t k, uint32_t *tally, uint32_t *row)
+{
+    return gorvyts_copies_in(pool->starts, pool->owners, pool->numbers, block, k, tally, 2, row, 10);
+}
 
 #ifdef __cplusplus
 }

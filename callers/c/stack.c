@@ -17,12 +17,13 @@ static const char history[] =
     "add 3 3\n";
 
 static const char *const names[] = {
-    "check", "fresh", "replay", "transcript", "add", "remove", "resize", "owner", "copies", "copies_of_many",
+    "check", "fresh", "replay", "transcript", "add", "remove", "resize", "owner", "copies", "copies_of_many", "open", "owner_in", "copies_in",
 };
 
 static uint8_t image[GORVYTS_IMAGE_MOST], next[GORVYTS_IMAGE_MOST], out[GORVYTS_TRANSCRIPT_ROOM];
 static uint64_t list[4 * GORVYTS_MOVES_MOST], answer[3];
 static uint32_t tally[2], row[10];
+static struct gorvyts_pool pool;
 static size_t length;
 
 static uint32_t call(int which)
@@ -40,7 +41,10 @@ static uint32_t call(int which)
     case 6: return gorvyts_resize(image, length, 3, 2000, next, sizeof next, list, places, answer, 3);
     case 7: return gorvyts_owner(image, length, 50, answer, 3);
     case 8: return gorvyts_copies(image, length, 7, 2, tally, 2, row, 10);
-    default: return gorvyts_copies_of_many(image, length, blocks, 1, 2, tally, 2, row, 10);
+    case 9: return gorvyts_copies_of_many(image, length, blocks, 1, 2, tally, 2, row, 10);
+    case 10: return gorvyts_pool_open(&pool, image, length);
+    case 11: return gorvyts_pool_owner(&pool, 50, answer);
+    default: return gorvyts_pool_copies(&pool, 7, 2, tally, row);
     }
 }
 
@@ -76,7 +80,7 @@ int main(void)
     if (gorvyts_replay((const uint8_t *)history, strlen(history), image, sizeof image, answer, 3) != 0)
         return 1;
     length = answer[0];
-    for (int which = 0; which < 10; which++) {
+    for (int which = 0; which < 13; which++) {
         size_t bytes = taken(which);
         if (bytes == 0)
             return 1;

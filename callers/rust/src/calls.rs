@@ -8,7 +8,8 @@
 //! A change takes 1.8 MB of stack, a lookup 0.8 MB: the main thread has them, and so has a thread that
 //! `std::thread` makes (2 MB), but not one of 1 MB. `gorvyts.h` has the figures.
 
-pub use crate::raw::{add, check, copies, copies_of_many, fresh, owner, remove, replay, resize, transcript};
+pub use crate::raw::{add, check, copies, copies_in, copies_of_many, fresh, open, owner, owner_in, remove};
+pub use crate::raw::{replay, resize, transcript};
 
 /// The bytes of the largest image.
 pub const IMAGE_MOST: usize = 26_131;
@@ -18,3 +19,6 @@ pub const TRANSCRIPT_ROOM: usize = 3_145_728;
 
 /// The most moves of a change.
 pub const MOVES_MOST: usize = 8_448;
+
+/// The places of the arrays of an opened pool.
+pub const PLACES: usize = 4_096;

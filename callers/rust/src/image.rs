@@ -1,10 +1,18 @@
-use crate::calls::{self, IMAGE_MOST, MOVES_MOST, TRANSCRIPT_ROOM};
+use crate::calls::{self, IMAGE_MOST, MOVES_MOST, PLACES, TRANSCRIPT_ROOM};
 use crate::Refusal;
 
 /// The image of a pool: bytes that the library made or accepted.
 #[derive(Clone, Debug, PartialEq, Eq, Hash)]
 pub struct Image {
     bytes: Vec<u8>,
+}
+
+/// The pool of an image, opened for many lookups: the image was read and checked once.
+#[derive(Clone, Debug, PartialEq, Eq)]
+pub struct Opened {
+    starts: Box<[u32; PLACES]>,
+    owners: Box<[u16; PLACES]>,
+    numbers: [u64; 3],
 }
 
 /// An accepted change.
@@ -116,6 +124,15 @@ impl Image {
         rows.chunks_exact(ROW).map(Copies::of_row).collect()
     }
 
+    /// The pool, opened: its lookups answer as those of the image do.
+    pub fn open(&self) -> Opened {
+        let (mut starts, mut owners) = (Box::new([0; PLACES]), Box::new([0; PLACES]));
+        let mut numbers = [0; 3];
+        let number = calls::open(&self.bytes, &mut starts[..], &mut owners[..], &mut numbers);
+        assert_eq!(number, 0, "an image was refused, or its arrays");
+        Opened { starts, owners, numbers }
+    }
+
     fn made(call: impl FnOnce(&mut [u8], &mut [u64]) -> u32) -> Result<Image, Refusal> {
         let mut bytes = vec![0; IMAGE_MOST];
         let mut answer = [0];
@@ -138,6 +155,25 @@ impl Image {
             to: place[3],
         });
         Ok(Change { image: Image { bytes }, moves: moves.collect(), moved })
+    }
+}
+
+impl Opened {
+    /// The id of the device that owns a point. Refusals: 13, 10.
+    pub fn owner(&self, point: u64) -> Result<u64, Refusal> {
+        let mut answer = [0];
+        let number = calls::owner_in(&self.starts, &self.owners, &self.numbers, point, &mut answer);
+        Refusal::unless_accepted(number)?;
+        Ok(answer[0])
+    }
+
+    /// The k devices (1 to 8) that hold the copies of a block. Refusals: 11, 10, 12; then the tally stays.
+    pub fn copies(&self, block: u64, k: u64, tally: &mut Tally) -> Result<Copies, Refusal> {
+        let mut row = [0; ROW];
+        tally.lend(|tally| {
+            calls::copies_in(&self.starts, &self.owners, &self.numbers, block, k, tally, &mut row)
+        });
+        Copies::of_row(&row)
     }
 }
 

@@ -16,6 +16,10 @@
 //! let copies = change.image.copies(7, 2, &mut tally)?;
 //! assert_eq!(copies.owners.len(), 2);
 //! assert_eq!(change.image.owner(100), Err(Refusal::PointPastRange));
+//!
+//! let opened = change.image.open();
+//! assert_eq!(opened.owner(99), Ok(2));
+//! assert_eq!(opened.copies(7, 2, &mut tally)?, copies);
 //! # Ok::<(), Refusal>(())
 //! ```
 
@@ -30,5 +34,5 @@ mod image;
 mod raw;
 mod refusal;
 
-pub use image::{transcript, Change, Copies, Image, Move, Tally};
+pub use image::{transcript, Change, Copies, Image, Move, Opened, Tally};
 pub use refusal::Refusal;

@@ -7,6 +7,8 @@
 
 #![allow(unsafe_code)]
 
+use crate::calls::PLACES;
+
 extern "C" {
     fn gorvyts_check(image: *const u8, image_size: usize) -> u32;
 
@@ -104,6 +106,38 @@ extern "C" {
         tally_size: usize,
         rows: *mut u32,
         rows_size: usize,
+    ) -> u32;
+
+    fn gorvyts_open(
+        image: *const u8,
+        image_size: usize,
+        starts: *mut u32,
+        starts_size: usize,
+        owners: *mut u16,
+        owners_size: usize,
+        numbers: *mut u64,
+        numbers_size: usize,
+    ) -> u32;
+
+    fn gorvyts_owner_in(
+        starts: *const u32,
+        owners: *const u16,
+        numbers: *const u64,
+        point: u64,
+        answer: *mut u64,
+        answer_size: usize,
+    ) -> u32;
+
+    fn gorvyts_copies_in(
+        starts: *const u32,
+        owners: *const u16,
+        numbers: *const u64,
+        block: u64,
+        k: u64,
+        tally: *mut u32,
+        tally_size: usize,
+        row: *mut u32,
+        row_size: usize,
     ) -> u32;
 }
 
@@ -263,6 +297,72 @@ pub fn copies_of_many(image: &[u8], blocks: &[u64], k: u64, tally: &mut [u32], r
             tally.len(),
             rows.as_mut_ptr(),
             rows.len(),
+        )
+    }
+}
+
+/// Opens an image for many lookups: the first [`PLACES`] places of `starts` and `owners` become those of its
+/// intervals and then zeros; `numbers[0]` is the range, `numbers[1]` the intervals, `numbers[2]` the devices.
+/// Refusals: 17; 14, 15, 16, then the numbers are zeros and the arrays stay.
+pub fn open(image: &[u8], starts: &mut [u32], owners: &mut [u16], numbers: &mut [u64]) -> u32 {
+    // SAFETY: each pointer and count are those of one slice; the image is only read, the others are exclusive.
+    unsafe {
+        gorvyts_open(
+            image.as_ptr(),
+            image.len(),
+            starts.as_mut_ptr(),
+            starts.len(),
+            owners.as_mut_ptr(),
+            owners.len(),
+            numbers.as_mut_ptr(),
+            numbers.len(),
+        )
+    }
+}
+
+/// Writes the owner of a point of an opened pool to `answer[0]`. Refusals: 13, 10, 17.
+pub fn owner_in(
+    starts: &[u32; PLACES],
+    owners: &[u16; PLACES],
+    numbers: &[u64; 3],
+    point: u64,
+    answer: &mut [u64],
+) -> u32 {
+    // SAFETY: the arrays have the places that the header asks, and are only read; the answer is one exclusive slice.
+    unsafe {
+        gorvyts_owner_in(
+            starts.as_ptr(),
+            owners.as_ptr(),
+            numbers.as_ptr(),
+            point,
+            answer.as_mut_ptr(),
+            answer.len(),
+        )
+    }
+}
+
+/// Writes the copies of a block of an opened pool; tally and row as of [`copies`]. Refusals: 11, 10, 12, 17.
+pub fn copies_in(
+    starts: &[u32; PLACES],
+    owners: &[u16; PLACES],
+    numbers: &[u64; 3],
+    block: u64,
+    k: u64,
+    tally: &mut [u32],
+    row: &mut [u32],
+) -> u32 {
+    // SAFETY: the arrays have the places that the header asks, and are only read; tally and row are exclusive slices.
+    unsafe {
+        gorvyts_copies_in(
+            starts.as_ptr(),
+            owners.as_ptr(),
+            numbers.as_ptr(),
+            block,
+            k,
+            tally.as_mut_ptr(),
+            tally.len(),
+            row.as_mut_ptr(),
+            row.len(),
         )
     }
 }

@@ -65,7 +65,7 @@ fn number(variable: &str) -> Option<u64> {
 
 /// What each call can return, and what can stand in a row and in a line of a transcript. A move list of 4,096
 /// places, as transcripts have it, is enough for all histories here, so that no line gets 9.
-const CAN_OCCUR: [(&str, &[u32]); 12] = [
+const CAN_OCCUR: [(&str, &[u32]); 15] = [
     ("check", &[0, 14, 15, 16]),
     ("fresh", &[0, 2, 17]),
     ("replay", &[0, 2, 17]),
@@ -78,6 +78,9 @@ const CAN_OCCUR: [(&str, &[u32]); 12] = [
     ("copies", &[0, 10, 11, 12, 14, 15, 16, 17]),
     ("copies_of_many", &[0, 14, 15, 16, 17]),
     ("row", &[0, 10, 11, 12]),
+    ("open", &[0, 14, 15, 16, 17]),
+    ("owner_in", &[0, 10, 13, 17]),
+    ("copies_in", &[0, 10, 11, 12, 17]),
 ];
 
 /// A buffer with a pattern in it, of which the middle is lent.
@@ -100,6 +103,12 @@ trait Place: Copy + PartialEq + Debug {
 impl Place for u8 {
     fn of(number: u64) -> u8 {
         number as u8
+    }
+}
+
+impl Place for u16 {
+    fn of(number: u64) -> u16 {
+        number as u16
     }
 }
 
@@ -322,11 +331,32 @@ impl Trial {
         for point in points.into_iter().chain(starts) {
             let answer = answer_size(random, 1);
             self.owner(random, &bytes, point, answer);
+            self.owner_in(random, &bytes, point, answer);
         }
         for _ in 0..4 {
             self.one_block(random, &bytes);
+            self.one_block_in(random, &bytes);
         }
         self.many_blocks(random, &bytes);
+        self.any_opening(random, &bytes);
+    }
+
+    fn one_block_in(&mut self, random: &mut Random, bytes: &[u8]) {
+        let (block, k) = (block(random), copies_asked(random));
+        let (tally, row) = (tally(random), random.size_near(10));
+        self.copies_in(bytes, block, k, tally, Lent::new(random, row));
+    }
+
+    fn any_opening(&mut self, random: &mut Random, bytes: &[u8]) {
+        let mut places = || match random.below(16) {
+            0 => random.index(calls::PLACES),
+            1 => calls::PLACES - 1,
+            2 => calls::PLACES + random.index(9),
+            _ => calls::PLACES,
+        };
+        let (starts, owners) = (places(), places());
+        let numbers = answer_size(random, 3);
+        self.open(random, bytes, starts, owners, numbers);
     }
 
     fn one_block(&mut self, random: &mut Random, bytes: &[u8]) {
@@ -351,10 +381,11 @@ impl Trial {
     /// One of the calls on an image, with any bytes in its place; the pool is that from which they come.
     fn any_call(&mut self, random: &mut Random, bytes: &[u8], pool: &Pool) {
         let ids: Vec<u64> = pool.devices.iter().map(|device| device.id).collect();
-        match random.below(6) {
+        match random.below(7) {
             0 => {
                 self.check(bytes);
             }
+            6 => self.any_opening(random, bytes),
             1 => {
                 let (point, answer) = (random.below(pool.range), answer_size(random, 1));
                 self.owner(random, bytes, point, answer);
@@ -553,6 +584,73 @@ impl Trial {
         ];
         self.told("copies_of_many", number, apart, || {
             format!("blocks {blocks:?}, k {k}, tally {before:?}, image {}", hex(bytes))
+        });
+    }
+}
+
+/// The arrays and numbers of an opened pool.
+struct Arrays {
+    starts: Box<[u32; calls::PLACES]>,
+    owners: Box<[u16; calls::PLACES]>,
+    numbers: [u64; 3],
+}
+
+fn opened(bytes: &[u8]) -> Arrays {
+    let mut arrays = Arrays {
+        starts: Box::new([0; calls::PLACES]),
+        owners: Box::new([0; calls::PLACES]),
+        numbers: [0; 3],
+    };
+    let number =
+        calls::open(bytes, &mut arrays.starts[..], &mut arrays.owners[..], &mut arrays.numbers);
+    assert_eq!(number, 0);
+    arrays
+}
+
+// Opened pools: the reference looks up in the pool of the image.
+impl Trial {
+    fn open(&mut self, random: &mut Random, bytes: &[u8], starts: usize, owners: usize, numbers: usize) {
+        let lent = bytes.to_vec();
+        let mut starts = Lent::new(random, starts);
+        let mut owners = Lent::new(random, owners);
+        let mut numbers = Lent::new(random, numbers);
+        let (mut starts2, mut owners2, mut numbers2) = (starts.clone(), owners.clone(), numbers.clone());
+        let number = (
+            calls::open(&lent, starts.lend(), owners.lend(), numbers.lend()),
+            expected::open(bytes, starts2.lend(), owners2.lend(), numbers2.lend()),
+        );
+        let apart = [
+            starts.apart("starts", &starts2),
+            owners.apart("owners", &owners2),
+            numbers.apart("numbers", &numbers2),
+            changed("image", &lent, bytes),
+        ];
+        self.told("open", number, apart, || format!("image {}", hex(bytes)));
+    }
+
+    fn owner_in(&mut self, random: &mut Random, bytes: &[u8], point: u64, answer: usize) {
+        let pool = opened(bytes);
+        let mut answer = Lent::new(random, answer);
+        let mut answer2 = answer.clone();
+        let number = (
+            calls::owner_in(&pool.starts, &pool.owners, &pool.numbers, point, answer.lend()),
+            expected::owner(bytes, point, answer2.lend()),
+        );
+        let apart = [answer.apart("answer", &answer2)];
+        self.told("owner_in", number, apart, || format!("point {point}, image {}", hex(bytes)));
+    }
+
+    fn copies_in(&mut self, bytes: &[u8], block: u64, k: u64, mut tally: Lent<u32>, mut row: Lent<u32>) {
+        let pool = opened(bytes);
+        let before = tally.lend().to_vec();
+        let (mut tally2, mut row2) = (tally.clone(), row.clone());
+        let number = (
+            calls::copies_in(&pool.starts, &pool.owners, &pool.numbers, block, k, tally.lend(), row.lend()),
+            expected::copies(bytes, block, k, tally2.lend(), row2.lend()),
+        );
+        let apart = [tally.apart("tally", &tally2), row.apart("row", &row2)];
+        self.told("copies_in", number, apart, || {
+            format!("block {block}, k {k}, tally {before:?}, image {}", hex(bytes))
         });
     }
 }

@@ -9,6 +9,7 @@ use std::fs;
 use std::path::PathBuf;
 
 use gorvyts::calls::{self, IMAGE_MOST};
+use gorvyts::{Image, Refusal};
 use reference::lookup::{self, Tally};
 use reference::pool::{Changed, Pool};
 use reference::{history, image, sha1};
@@ -115,15 +116,27 @@ fn by_reference(words: &[&str]) -> String {
 fn by_the_library(words: &[&str]) -> Option<String> {
     Some(match words[..] {
         ["owner", pool, point] => {
+            let (pool, point) = (unhex(pool), number(point));
             let mut answer = [0];
-            let refusal = calls::owner(&unhex(pool), number(point), &mut answer);
+            let refusal = calls::owner(&pool, point, &mut answer);
+            let opened = Image::check(pool).unwrap().open().owner(point);
+            assert_eq!(opened.map_err(Refusal::number), if refusal == 0 { Ok(answer[0]) } else { Err(refusal) });
             format!("{refusal} {}", answer[0])
         }
         ["copies", pool, block, k, lookups, tries] => {
+            let (pool, block, k) = (unhex(pool), number(block), number(k));
             let mut tally = [number(lookups) as u32, number(tries) as u32];
+            let mut counters = gorvyts::Tally { lookups: tally[0], probes: tally[1] };
             let mut row = [0; 10];
-            let refusal = calls::copies(&unhex(pool), number(block), number(k), &mut tally, &mut row);
+            let refusal = calls::copies(&pool, block, k, &mut tally, &mut row);
             assert_eq!(row[0], refusal);
+            let copies = Image::check(pool).unwrap().open().copies(block, k, &mut counters);
+            assert_eq!(copies.as_ref().map_err(|refusal| refusal.number()).err().unwrap_or(0), refusal);
+            if let Ok(copies) = copies {
+                let owners = copies.owners.iter().copied().chain([0; 8]).take(8);
+                assert!(owners.eq(row[1..9].iter().map(|&id| u64::from(id))) && copies.probes == row[9]);
+            }
+            assert_eq!([counters.lookups, counters.probes], tally);
             let row = row.map(|number| number.to_string()).join(" ");
             format!("{row} {} {}", tally[0], tally[1])
         }

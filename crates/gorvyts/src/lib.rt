@@ -3,7 +3,8 @@
 // that nothing is held between two calls. Each call returns 0 or a refusal number of document 01, and
 // takes any numbers, any bytes and buffers of any length. Results stand in the first places of
 // `answer`, zeros there on a refusal; where it has too few places the call is refused with 17 and
-// nothing is written. Beside the answer a refused call writes nothing.
+// nothing is written. Beside the answer a refused call writes nothing. For many lookups of one pool its
+// image is opened: the pool's arrays then stand in memory of the caller's, and each lookup is given them.
 mod answers;
 mod changes;
 mod copying;

@@ -17,16 +17,16 @@ ghost use Rattle.gorvyts.specs.Promises.{OpenedFrom, OwnedIn, CopiedOneI
 // The places of an array of a pool.
 const PLACES: usize = 4096;
 
-// Copies the starts and the owners of a table.
-fn copy_table(from: &[u32; PLACES], names: &[u16; PLACES], starts: &mut [u32], owners: &mut [u16])
-    requires { ⌜ (length (now from) ≡ 4096) × (length (now names) ≡ 4096) × (4096 ≤ length (now starts)) × (4096 ≤ length (now owners)) ⌝ }
-    ensures starts { λ r. ⌜ now (starts .exit) ≡ now (from .entry) ++ drop 4096 (now (starts .entry)) ⌝ }
-    ensures owners { λ r. ⌜ now (owners .exit) ≡ now (names .entry) ++ drop 4096 (now (owners .entry)) ⌝ }
+// Copies the arrays of a pool: the points where its intervals start, and the ids of their owners.
+fn copy_table(points: &[u32; PLACES], ids: &[u16; PLACES], starts: &mut [u32], owners: &mut [u16])
+    requires { ⌜ (length (now points) ≡ 4096) × (length (now ids) ≡ 4096) × (4096 ≤ length (now starts)) × (4096 ≤ length (now owners)) ⌝ }
+    ensures starts { λ r. ⌜ now (starts .exit) ≡ now (points .entry) ++ drop 4096 (now (starts .entry)) ⌝ }
+    ensures owners { λ r. ⌜ now (owners .exit) ≡ now (ids .entry) ++ drop 4096 (now (owners .entry)) ⌝ }
 {
     let mut i = 0;
     while i < PLACES {
-        starts[i] = from[i];
-        owners[i] = names[i];
+        starts[i] = points[i];
+        owners[i] = ids[i];
         i += 1;
     }
 }
@@ -59,9 +59,9 @@ pub extern "C" fn gorvyts_open(
         return made.refusal;
     }
     let pool = made.pool;
-    let from = pool.starts;
-    let names = pool.owners;
-    copy_table(&from, &names, &mut *starts, &mut *owners);
+    let points = pool.starts;
+    let ids = pool.owners;
+    copy_table(&points, &ids, &mut *starts, &mut *owners);
     put3(
         &mut *numbers,
         pool.range,

@@ -113,6 +113,25 @@ pub fn copies_of_many(bytes: &[u8], blocks: &[u64], k: u64, tally: &mut [u32], r
     0
 }
 
+/// The places of the arrays of an opened pool.
+const PLACES: usize = 4_096;
+
+pub fn open(bytes: &[u8], starts: &mut [u32], owners: &mut [u16], numbers: &mut [u64]) -> u32 {
+    if starts.len() < PLACES || owners.len() < PLACES {
+        return 17;
+    }
+    answered(numbers, || {
+        let pool = image::read(bytes)?;
+        starts[..PLACES].fill(0);
+        owners[..PLACES].fill(0);
+        for (i, interval) in pool.table.iter().enumerate() {
+            starts[i] = interval.start as u32;
+            owners[i] = interval.owner as u16;
+        }
+        Ok([pool.range, pool.table.len() as u64, pool.devices.len() as u64])
+    })
+}
+
 fn looked_up(pool: &Pool, block: u64, k: u64, tally: &mut [u32]) -> Copies {
     let mut counters = Tally { lookups: tally[0], tries: tally[1] };
     let copies = lookup::copies(pool, block, k, &mut counters);

@@ -10,11 +10,11 @@ use Rattle.gorvyts.proofs.opening.copy_table.Statement.{statement}
 use Rattle.gorvyts.proofs.opening.copy_table.Tie as tie
 
 abbrev Inv-loop : tie.InvT-loop
-Inv-loop from names starts₀ owners₀ i₀ starts owners i =
-    (i ≤ 4096) × (length starts ≡ length starts₀) × (starts ≡ paste starts₀ 0 from i) × (length owners ≡ length owners₀) × (owners ≡ paste owners₀ 0 names i)
+Inv-loop points ids starts₀ owners₀ i₀ starts owners i =
+    (i ≤ 4096) × (length starts ≡ length starts₀) × (starts ≡ paste starts₀ 0 points i) × (length owners ≡ length owners₀) × (owners ≡ paste owners₀ 0 ids i)
 
 abbrev μ-loop : tie.MeasureT-loop
-μ-loop from names starts₀ owners₀ i₀ starts owners i = 4096 - i
+μ-loop points ids starts₀ owners₀ i₀ starts owners i = 4096 - i
 
 loop-holds : tie.Need-loop-holds Inv-loop μ-loop
 loop-holds c = (omega arith, refl, refl, refl, refl)
@@ -26,10 +26,10 @@ loop-again c =
     let a = s .args in
     let l = turn .loop in (
       omega arith,
-      length-set (l .starts) (l .i) (getD (a .from .now) (l .i) 0) ∙ l .inv .1,
-      number-put (a .starts .now) (a .from .now) (l .starts) (l .i) (omega (arith, s .pre)) (omega (arith, s .pre)) (l .inv .2),
-      length-set (l .owners) (l .i) (getD (a .names .now) (l .i) 0) ∙ l .inv .3,
-      number-put (a .owners .now) (a .names .now) (l .owners) (l .i) (omega (arith, s .pre)) (omega (arith, s .pre)) (l .inv .4),
+      length-set (l .starts) (l .i) (getD (a .points .now) (l .i) 0) ∙ l .inv .1,
+      number-put (a .starts .now) (a .points .now) (l .starts) (l .i) (omega (arith, s .pre)) (omega (arith, s .pre)) (l .inv .2),
+      length-set (l .owners) (l .i) (getD (a .ids .now) (l .i) 0) ∙ l .inv .3,
+      number-put (a .owners .now) (a .ids .now) (l .owners) (l .i) (omega (arith, s .pre)) (omega (arith, s .pre)) (l .inv .4),
     )
 
 same-length : tie.Need-same-length Inv-loop μ-loop
@@ -43,8 +43,8 @@ returns c =
     let s = c .before .before in
     let a = s .args in
     let l = c .before .loop in (
-      array-all (a .starts .now) (a .from .now) (l .starts) (l .i) (s .pre .0) (omega arith) (l .inv .2),
-      array-all (a .owners .now) (a .names .now) (l .owners) (l .i) (s .pre .1) (omega arith) (l .inv .4),
+      array-all (a .starts .now) (a .points .now) (l .starts) (l .i) (s .pre .0) (omega arith) (l .inv .2),
+      array-all (a .owners .now) (a .ids .now) (l .owners) (l .i) (s .pre .1) (omega arith) (l .inv .4),
     )
 
 pub copy-table-spec : {M : Type 1} → statement M
