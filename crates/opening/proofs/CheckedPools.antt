@@ -1,10 +1,11 @@
 -- A pool's validity by the parts that `open` decides, and the pool opened.
 --
---   tableOf p                           the intervals of p
---   openedWith p ids capacities has     the pool p opened, with these arrays
+--   tableOf p           the intervals of p
+--   Opens p o table     o is the pool p opened, its table in the array
 --
 -- rows of equal arrays: rising-same, wide-rising, wide-ascending
 -- a valid pool: valid-formed, valid-refused (its intervals are runs of rows)
+-- the pool entered: entered-opens, filled-opens (with what each row has)
 -- no device: empty-valid, empty-opened
 -- intervals as runs of rows: rows-labels, rows-points, rows-valid (each row has its share, or not), rows-opened
 use mathlib.Core.Path.{_≡_, refl, sym, ap, _∙_, subst}
@@ -12,7 +13,7 @@ use mathlib.Core.Bool.{Bool, true}
 use mathlib.Core.List.{List}
 use Prim.Native.Nat.{ℕ, zero, suc, _≤_, _<_, _^_}
 use native.Mathlib.Omega.{arith}
-use lib.ListN.{length}
+use lib.ListN.{length, replicate}
 use borrow.Author.Tests.{lt-ltb}
 use Rattle.slicing.specs.Devices.{Device, present, Rising}
 use Rattle.slicing.specs.Devices.{ids as idsOf}
@@ -35,7 +36,7 @@ use Rattle.placement.specs.Pools.{stateOf, ValidPool, Covered, Widened}
 use Rattle.placement.proofs.Deciding.{decides-iff}
 use Rattle.placement.proofs.HeldRows.{owned-row}
 use Rattle.placement.proofs.ValidParts.{valid-limited, valid-rising, valid-cleared, valid-empty, valid-covered, parts-valid}
-use Rattle.opening.specs.Tables.{Formed, Rowed, NotRowed}
+use Rattle.opening.specs.Tables.{openedWith, Entered, Formed, Rowed, NotRowed}
 
 abbrev pub tableOf : Pool → List (Run ℕ)
 tableOf p = tableRows (p .starts) (p .owners) (p .range) 0 (p .intervals)
@@ -68,11 +69,24 @@ module _ {p o : List ℕ} {q R : ℕ} {ids : List ℕ} {n : ℕ} {table : List �
   pub rows-points : R ≤ 2 ^ 32 → total (runs table 0 q) < 2 ^ 48
   rows-points most = omega (arith, total-relabel (at ids) (runs table 0 q), ap total (r .same), r .covers)
 
-abbrev pub openedWith : Pool → List ℕ → List ℕ → List ℕ → Opened
-openedWith p ids capacities has =
-    record { range = p .range; limit = p .limit; devices = p .devices; ids = ids; capacities = capacities; has = has; intervals = p .intervals }
+-- ---- a pool entered
 
--- wide arrays with the pool's devices
+abbrev Opens : Pool → Opened → List ℕ → Type 0
+Opens p o table = Open o table × (stateIn o table ≡ stateOf p)
+
+abbrev withHas : Opened → List ℕ → Opened
+withHas o has =
+    record { range = o .range; limit = o .limit; devices = o .devices; ids = o .ids; capacities = o .capacities; has = has; intervals = o .intervals }
+
+module _ {p : Pool} {o : Opened} (n : Entered p o) (table : List ℕ) where
+  pub entered-opens : Opens p (openedWith p (o .ids) (o .capacities) (replicate 256 0)) table → Opens p o table
+  entered-opens h = subst (λ (x : Opened). Opens p x table) (sym (n .same)) h
+
+  pub filled-opens : (has : List ℕ) → Opens p (openedWith p (o .ids) (o .capacities) has) table → Opens p (withHas o has) table
+  filled-opens has h = subst (λ (x : Opened). Opens p (withHas x has) table) (sym (n .same)) h
+
+-- ---- wide arrays with the pool's devices
+
 module _ (p : Pool) {ids capacities : List ℕ} (wi : Widened (p .ids) 65536 256 ids) (wc : Widened (p .capacities) 4294967296 256 capacities) where
   pub wide-rising : Formed p → Rising 0 (deviceRows ids capacities 0 (p .devices))
   wide-rising f = rising-same (p .devices) (sym (wi .same)) (sym (wc .same)) (f .rising)
@@ -91,7 +105,7 @@ module _ (p : Pool) {ids capacities : List ℕ} (wi : Widened (p .ids) 65536 256
 
     pub pool-opened : ValidPool p → Labelled (p .devices) table (p .intervals)
         → ((i : ℕ) → i < p .devices → at has i ≡ owned i (runs table 0 (p .intervals))) → length has ≡ 256 → length table ≡ room
-        → Open (openedWith p ids capacities has) table × (stateIn (openedWith p ids capacities has) table ≡ stateOf p)
+        → Opens p (openedWith p ids capacities has) table
     pool-opened v l h s t = (
       record {
         valid = subst Valid (sym state-opened) (v .valid);
@@ -113,7 +127,7 @@ module _ (p : Pool) {ids capacities : List ℕ} (wi : Widened (p .ids) 65536 256
     empty-valid none = formed-valid (λ k. absurd (omega arith))
 
     pub empty-opened : (has table : List ℕ) → p .devices ≡ 0 → length has ≡ 256 → length table ≡ room
-        → Open (openedWith p ids capacities has) table × (stateIn (openedWith p ids capacities has) table ≡ stateOf p)
+        → Opens p (openedWith p ids capacities has) table
     empty-opened has table none s t =
         let q : p .intervals ≡ 0 = f .empty none in
         pool-opened has table (rw q) (empty-valid none) (λ i l. absurd (omega arith)) (λ i l. absurd (omega arith)) s t
@@ -148,7 +162,7 @@ module _ (p : Pool) {ids capacities : List ℕ} (wi : Widened (p .ids) 65536 256
           covers v = rw (wi .same, wc .same) (valid-covered p v some)
 
       pub rows-opened : (b : Bool) → Decides b ((i : ℕ) → i < p .devices → at has i ≡ at due i) → length has ≡ 256 → length table ≡ room → b ≡ true
-          → Open (openedWith p ids capacities has) table × (stateIn (openedWith p ids capacities has) table ≡ stateOf p)
+          → Opens p (openedWith p ids capacities has) table
       rows-opened b d s t z =
           pool-opened has table (r .same) (subst (λ (x : Bool). Decides x (ValidPool p)) z (rows-valid b d)) (r .labels)
           (λ i l. h i (omega (arith, f .limited .few))) s t

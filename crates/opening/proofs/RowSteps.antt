@@ -3,10 +3,10 @@
 --   left p o R q i                       the intervals from i on, of q
 --   Rowing p o q R ids n table i         of q intervals, the first i stand in `table` as runs of rows
 --
--- tableRows: left-next, left-last (one interval), owner-next, next-owner (what its neighbour has), covers-from
--- LengthAt: length-of, length-same (the next owner is the same)
--- Rowing: rowing-none, rowing-step, rowing-end; not all stand there: rowing-short, rowing-unknown
--- RowsOf: rows-none (no interval), rows-first (where the first interval begins)
+-- left: left-next, left-last (its first interval), left-end
+-- LengthAt: length-same (the next owner is the same), length-next, length-last
+-- Rowing: rowing-none, rowing-step; at an interval that cannot stand there: rowing-short (it has no length), rowing-unknown (no owner)
+-- RowsOf: rows-none (no interval), rows-first (all stand there; the first begins at 0 or not)
 use mathlib.Core.Path.{_≡_, refl, sym, ap, _∙_}
 use mathlib.Core.Bool.{Bool, true, false, true≢false}
 use mathlib.Core.List.{List, [], _∷_, _++_, append-nil}

@@ -1,5 +1,7 @@
 -- A pool's validity in the parts that `open` decides, and its table as runs of device rows.
 --
+--   openedWith p ids capacities has         the pool p opened, with these arrays
+--   Entered p o                             o has the numbers of p, and its rows have nothing yet
 --   Formed p                                the parts that do not speak of the intervals' points
 --   LengthAt starts owners q R i r          r is the length of interval i of q, or 0 where it cannot be one of a valid table
 --   Rowed starts owners q R ids n table     `table` has the intervals as runs, each owner being one of the n ids, named by its row; they cover R
@@ -10,12 +12,23 @@ use mathlib.Core.Bool.{Bool, true, false}
 use mathlib.Core.List.{List, _∷_}
 use Prim.Native.Nat.{ℕ, _+_, _-_, _≤_, _^_}
 use lib.Dec.{eqb}
+use lib.ListN.{replicate}
 use Rattle.slicing.specs.Devices.{present, Rising}
 use Rattle.slicing.specs.Runs.{_of_, total, owned, relabel, Differs, Coalesced}
 use Rattle.slicing_core.specs.Rows.{at, deviceRows, tableRows}
 use Rattle.six_steps.specs.Words.{runs, Labelled}
+use Rattle.opened.specs.declared.Opened.{Opened}
 use Rattle.placement.specs.declared.Pool.{Pool}
-use Rattle.placement.specs.Pools.{Limited, Cleared}
+use Rattle.placement.specs.Pools.{Limited, Cleared, Widened}
+
+abbrev pub openedWith : Pool → List ℕ → List ℕ → List ℕ → Opened
+openedWith p ids capacities has =
+    record { range = p .range; limit = p .limit; devices = p .devices; ids = ids; capacities = capacities; has = has; intervals = p .intervals }
+
+pub record Entered (p : Pool) (o : Opened) : Type 0 where
+  pub ids : Widened (p .ids) 65536 256 (o .ids)
+  pub capacities : Widened (p .capacities) 4294967296 256 (o .capacities)
+  pub same : o ≡ openedWith p (o .ids) (o .capacities) (replicate 256 0)
 
 pub record Formed (p : Pool) : Type 0 where
   pub limited : Limited p

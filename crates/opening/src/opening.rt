@@ -18,7 +18,7 @@ ghost use Rattle.slicing_core.specs.Stages.{Ascending, Decides};
 ghost use Rattle.placement.specs.Pools.{stateOf, ValidPool, Zeros};
 ghost use Rattle.six_steps.specs.Words.{runs, room, Labelled};
 ghost use Rattle.opened.specs.OpenPools.{stateIn, Open};
-ghost use Rattle.opening.specs.Tables.{Formed, LengthAt, RowsOf};
+ghost use Rattle.opening.specs.Tables.{Entered, Formed, LengthAt, RowsOf};
 
 // Whether a pool is valid, and the pool opened where it is.
 pub struct Checked {
@@ -42,6 +42,32 @@ fn unused(ids: &[u16], values: &[u32], n: usize) -> bool
         i += 1;
     }
     true
+}
+
+// A pool's numbers as those of an opened one, which has nothing yet.
+fn entered(pool: Pool) -> Opened
+    ensures { λ r. ⌜ Entered pool r ⌝ }
+{
+    let narrow_ids = pool.ids;
+    let narrow_capacities = pool.capacities;
+    let mut ids = [0u64; 256];
+    let mut capacities = [0u64; 256];
+    widen(
+        &mut ids,
+        &mut capacities,
+        &narrow_ids,
+        &narrow_capacities,
+        256,
+    );
+    Opened {
+        range: pool.range,
+        limit: pool.limit as u64,
+        devices: pool.devices,
+        ids: ids,
+        capacities: capacities,
+        has: [0; 256],
+        intervals: pool.intervals,
+    }
 }
 
 // Whether all but the intervals' points is as in a valid pool; ids and capacities are the pool's.
@@ -176,29 +202,13 @@ pub fn open(pool: Pool, table: &mut [u64; ROOM]) -> Checked
     ensures opened { λ r. ⌜ (r .valid ≡ true → Open (r .opened) (now (table .exit)) × (stateIn (r .opened) (now (table .exit)) ≡ stateOf pool)) ⌝ }
     ensures { λ r. ⌜ length (now (table .exit)) ≡ room ⌝ }
 {
-    let range = pool.range;
     let n = pool.devices;
     let q = pool.intervals;
-    let narrow_ids = pool.ids;
-    let narrow_capacities = pool.capacities;
-    let mut ids = [0u64; 256];
-    let mut capacities = [0u64; 256];
-    widen(
-        &mut ids,
-        &mut capacities,
-        &narrow_ids,
-        &narrow_capacities,
-        256,
-    );
-    let mut opened = Opened {
-        range: range,
-        limit: pool.limit as u64,
-        devices: n,
-        ids: ids,
-        capacities: capacities,
-        has: [0; 256],
-        intervals: q,
-    };
+    let starts = pool.starts;
+    let owners = pool.owners;
+    let mut opened = entered(pool);
+    let ids = opened.ids;
+    let capacities = opened.capacities;
     if !formed(pool, &ids, &capacities) {
         return Checked {
             valid: false,
@@ -211,16 +221,14 @@ pub fn open(pool: Pool, table: &mut [u64; ROOM]) -> Checked
             opened: opened,
         };
     }
-    let starts = pool.starts;
-    let owners = pool.owners;
-    if !rows_of(&starts, &owners, q, range, &ids, n, &mut *table) {
+    if !rows_of(&starts, &owners, q, pool.range, &ids, n, &mut *table) {
         return Checked {
             valid: false,
             opened: opened,
         };
     }
     let has = held(table, q);
-    let due = shares(range, &ids, &capacities, n);
+    let due = shares(pool.range, &ids, &capacities, n);
     opened.has = has;
     Checked {
         valid: same(&has, &due, n),

@@ -7,26 +7,23 @@ use lib.ListN.{length, length-replicate}
 use borrow.Author.Needs.{needs}
 use borrow.Author.Tests.{not-true, not-false}
 use Rattle.placement.specs.declared.Pool.{Pool}
-use Rattle.placement.specs.Pools.{Widened}
-use Rattle.opening.specs.Tables.{Formed}
-use Rattle.opening.proofs.CheckedPools.{valid-formed, valid-refused, wide-rising, wide-ascending, empty-valid, empty-opened, rows-labels, rows-points, rows-valid, rows-opened}
+use Rattle.opening.specs.Tables.{Entered, Formed}
+use Rattle.opening.proofs.CheckedPools.{valid-formed, valid-refused, entered-opens, filled-opens, wide-rising, wide-ascending}
+use Rattle.opening.proofs.CheckedPools.{empty-valid, empty-opened, rows-labels, rows-points, rows-valid, rows-opened}
 use Rattle.opening.proofs.opening.open.Statement.{statement}
 use Rattle.opening.proofs.opening.open.Tie as tie
 
-abbrev widened : tie.After-formed → tie.After-widen
-widened c = c .before .before .before .before .before .before
+abbrev entry : tie.After-formed → tie.After-entered
+entry c = c .before .before .before .before .before
 
-abbrev start : tie.After-widen → tie.Start
-start c = c .before .before .before .before .before .before .before
+abbrev start : tie.After-formed → tie.Start
+start c = entry c .before .before .before
 
 abbrev pool : tie.After-formed → Pool
-pool c = start (widened c) .args .pool
+pool c = start c .args .pool
 
-ids : (c : tie.After-formed) → Widened (pool c .ids) 65536 256 (widened c .widen .last .0)
-ids c = widened c .widen .ensures .0
-
-capacities : (c : tie.After-formed) → Widened (pool c .capacities) 4294967296 256 (widened c .widen .last .1 .0)
-capacities c = widened c .widen .ensures .1
+numbers : (c : tie.After-formed) → Entered (pool c) (entry c .entered .result)
+numbers c = entry c .entered .ensures
 
 starts-size : (s : tie.Start) → length (s .args .pool .starts) ≡ 4096
 starts-size s = search needs
@@ -37,42 +34,45 @@ owners-size s = search needs
 is-formed : (c : tie.Else1) → Formed (pool (c .before))
 is-formed c = rw (not-false (c .before .formed .result) (c .if1 .left)) at (c .before .formed .ensures)
 
+few : (c : tie.Else1) → pool (c .before) .intervals ≤ 4096
+few c = omega (arith, is-formed c .limited .fits, is-formed c .limited .roomMost)
+
 returns : tie.Need-returns
 returns c = (
   λ v. (rw (not-true (c .before .formed .result) (c .if1 .taken)) at (c .before .formed .ensures)) (valid-formed _ v),
-  (λ e. absurd (true≢false (sym e)), start (widened (c .before)) .pre),
+  (λ e. absurd (true≢false (sym e)), start (c .before) .pre),
 )
 
 returns-2 : tie.Need-returns-2
 returns-2 c =
     let f = c .before .before in
-    let s = start (widened f) in (
-      empty-valid (pool f) (ids f) (capacities f) (starts-size s) (owners-size s) (is-formed (c .before)) (c .if2 .taken),
+    let n = numbers f in
+    let s = start f in
+    let t = s .args .table .now in (
+      empty-valid (pool f) (n .ids) (n .capacities) (starts-size s) (owners-size s) (is-formed (c .before)) (c .if2 .taken),
       (
-        λ e. empty-opened (pool f) (ids f) (capacities f) (starts-size s) (owners-size s) (is-formed (c .before)) _ _ (c .if2 .taken)
-            (length-replicate {A = ℕ} 256 0) (s .pre),
+        λ e. entered-opens n t
+            (empty-opened (pool f) (n .ids) (n .capacities) (starts-size s) (owners-size s) (is-formed (c .before)) _ t (c .if2 .taken)
+            (length-replicate {A = ℕ} 256 0) (s .pre)),
         s .pre,
       ),
     )
 
 abbrev some : tie.After-rows-of → tie.Else2
-some c = c .before .before .before .before .before .before .before
-
-few : (c : tie.Else1) → pool (c .before) .intervals ≤ 4096
-few c = omega (arith, is-formed c .limited .fits, is-formed c .limited .roomMost)
+some c = c .before .before .before .before .before
 
 rows-of-requires : tie.Need-rows-of-requires
 rows-of-requires c κs =
-    let e = c .before .before .before .before .before .before .before in
+    let e = c .before .before .before .before .before in
     let f = e .before in
     let m = is-formed e .limited in
-    (few e, m .some, m .most, m .few, wide-ascending (pool f) (ids f) (capacities f) (is-formed e), start (widened f) .pre)
+    (few e, m .some, m .most, m .few, wide-ascending (pool f) (numbers f .ids) (numbers f .capacities) (is-formed e), start f .pre)
 
 returns-3 : tie.Need-returns-3
 returns-3 c =
     let e = some (c .before) in
     let f = e .before .before in (
-      valid-refused (pool f) (ids f) (capacities f) (omega (arith, e .if2 .left))
+      valid-refused (pool f) (numbers f .ids) (numbers f .capacities) (omega (arith, e .if2 .left))
           (rw (not-true (c .before .rows-of .result) (c .if3 .taken)) at (c .before .rows-of .ensures .0)),
       (λ z. absurd (true≢false (sym z)), c .before .rows-of .ensures .1),
     )
@@ -89,7 +89,7 @@ shares-requires c κs =
     let e = some (c .before .before .before .before .before) in
     let f = e .before .before in
     let m = is-formed (e .before) in
-    (omega (arith, e .if2 .left), m .limited .few, m .limited .most, wide-rising (pool f) (ids f) (capacities f) m)
+    (omega (arith, e .if2 .left), m .limited .few, m .limited .most, wide-rising (pool f) (numbers f .ids) (numbers f .capacities) m)
 
 same-requires : tie.Need-same-requires
 same-requires c κs = is-formed (some (c .before .before .before .before .before .before .before .before) .before) .limited .few
@@ -101,15 +101,17 @@ returns-4 c =
     let rowed = summed .before .before in
     let e = some (rowed .before) in
     let f = e .before .before in
-    let s = start (widened f) in
+    let n = numbers f in
+    let s = start f in
     let r = rw (not-false (rowed .before .rows-of .result) (rowed .if3 .left)) at (rowed .before .rows-of .ensures .0) in
+    let h = summed .held .ensures in
     let room = rowed .before .rows-of .ensures .1 in (
-      rows-valid (pool f) (ids f) (capacities f) (starts-size s) (owners-size s) (is-formed (e .before)) (omega (arith, e .if2 .left)) (summed .held .result)
-          (shared .shares .result) _ r (summed .held .ensures .0) (shared .shares .ensures .0) (c .same .result) (c .same .ensures),
+      rows-valid (pool f) (n .ids) (n .capacities) (starts-size s) (owners-size s) (is-formed (e .before)) (omega (arith, e .if2 .left)) (summed .held .result)
+          (shared .shares .result) _ r (h .0) (shared .shares .ensures .0) (c .same .result) (c .same .ensures),
       (
-        rows-opened (pool f) (ids f) (capacities f) (starts-size s) (owners-size s) (is-formed (e .before)) (omega (arith, e .if2 .left)) (summed .held .result)
-            (shared .shares .result) _ r (summed .held .ensures .0) (shared .shares .ensures .0) (c .same .result) (c .same .ensures) (summed .held .ensures .1)
-            room,
+        λ z. filled-opens n _ (summed .held .result)
+            (rows-opened (pool f) (n .ids) (n .capacities) (starts-size s) (owners-size s) (is-formed (e .before)) (omega (arith, e .if2 .left))
+            (summed .held .result) (shared .shares .result) _ r (h .0) (shared .shares .ensures .0) (c .same .result) (c .same .ensures) (h .1) room z),
         room,
       ),
     )
@@ -118,12 +120,7 @@ pub open-spec : {M : Type 1} → statement M
 open-spec =
     tie.close
     (tie.spec
-    (λ c. search needs)
-    (λ c. search needs)
-    (λ c. search needs)
-    (λ c. search needs)
     (λ c κs. search needs)
-    (λ c. search needs)
     (λ c κs. search needs)
     returns
     returns-2
