@@ -1,2 +1,3 @@
 pub mod RowNames
 pub mod OpenPools
+pub mod HalvedIds

@@ -1,7 +1,6 @@
 // The devices of an opened pool: limits, the row of an id, and their shares.
 use crate::Opened;
 use shares::shares;
-use slicing_core::devices::position;
 ghost use mathlib.Core.Path.{_≡_};
 ghost use mathlib.Core.Bool.{true};
 ghost use mathlib.Core.List.{List};
@@ -21,6 +20,24 @@ pub fn outside(most: u64, x: u64) -> bool
         return true;
     }
     most < x
+}
+
+// How many of the n rising ids are below `id`, by halving.
+pub fn position(ids: &[u64; 256], n: usize, id: u64) -> usize
+    requires { ⌜ (n ≤ 256) × Ascending (now ids) n ⌝ }
+    ensures { λ r. ⌜ Position (now (ids .entry)) n id r ⌝ }
+{
+    let mut low = 0;
+    let mut high = n;
+    while low < high {
+        let middle = (low + high) / 2;
+        if ids[middle] < id {
+            low = middle + 1;
+        } else {
+            high = middle;
+        }
+    }
+    low
 }
 
 // The row of a device, or the row that it would have.
