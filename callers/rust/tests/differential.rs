@@ -601,8 +601,7 @@ fn opened(bytes: &[u8]) -> Arrays {
         owners: Box::new([0; calls::PLACES]),
         numbers: [0; 3],
     };
-    let number =
-        calls::open(bytes, &mut arrays.starts[..], &mut arrays.owners[..], &mut arrays.numbers);
+    let number = calls::open(bytes, &mut arrays.starts[..], &mut arrays.owners[..], &mut arrays.numbers);
     assert_eq!(number, 0);
     arrays
 }

@@ -120,7 +120,10 @@ fn by_the_library(words: &[&str]) -> Option<String> {
             let mut answer = [0];
             let refusal = calls::owner(&pool, point, &mut answer);
             let opened = Image::check(pool).unwrap().open().owner(point);
-            assert_eq!(opened.map_err(Refusal::number), if refusal == 0 { Ok(answer[0]) } else { Err(refusal) });
+            assert_eq!(
+                opened.map_err(Refusal::number),
+                if refusal == 0 { Ok(answer[0]) } else { Err(refusal) }
+            );
             format!("{refusal} {}", answer[0])
         }
         ["copies", pool, block, k, lookups, tries] => {

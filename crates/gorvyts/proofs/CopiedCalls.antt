@@ -9,7 +9,6 @@ use Prim.Native.Nat.{ℕ, _*_, _/_, _≤_, _<_}
 use native.Mathlib.Omega.{arith}
 use lib.ListN.{length, drop, replicate}
 use lib.Seq.{append-snoc}
-use Rattle.slicing.specs.Changes.{State}
 use Rattle.placement.specs.Pools.{stateOf}
 use Rattle.placement.specs.declared.PoolAnswer.{PoolAnswer}
 use Rattle.lookups.specs.Copies.{Outcome}

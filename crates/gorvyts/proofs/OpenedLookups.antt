@@ -3,7 +3,7 @@
 -- owned-in-short, owned-in-told (the owner of a point)
 -- one-in-tally, one-in-row, one-in-copied (the copies of a block)
 -- on an opened pool: opened-image, opened-answer, opened-outcome, opened-owned, opened-copied
-use mathlib.Core.Path.{_≡_, refl, sym, ap, _∙_}
+use mathlib.Core.Path.{_≡_, refl, ap, _∙_}
 use mathlib.Core.Bool.{Bool, true, false}
 use mathlib.Core.List.{List, [], _∷_, _++_}
 use Prim.Native.Nat.{ℕ, _-_, _≤_, _<_, min}

@@ -12,7 +12,7 @@ use Rattle.placement.specs.Pools.{stateOf, poolOf, ValidPool}
 use Rattle.placement.specs.declared.Pool.{Pool}
 use Rattle.placement.specs.declared.PoolAnswer.{PoolAnswer}
 use Rattle.images.specs.Promises.{ReadAs}
-use Rattle.gorvyts.specs.Promises.{Opened, openedAs, OpenedFrom}
+use Rattle.gorvyts.specs.Promises.{openedAs, OpenedFrom}
 use Rattle.gorvyts.proofs.MovedLists.{numbers-all}
 use Rattle.gorvyts.proofs.OnImages.{on-image-refused, on-image-accepted, on-image-valid}
 
