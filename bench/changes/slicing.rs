@@ -1,4 +1,5 @@
-// The changes of crates/placement in Rust, with the same steps. For bench/changes and bench/history.
+// The changes of crates/placement in Rust, with the same steps. For bench/changes; bench/history takes the shares,
+// the cut of an interval and the rows of devices from here.
 const SCRATCH: usize = 8448;
 
 #[derive(Clone, Copy)]
@@ -144,7 +145,7 @@ fn position(ids: &[u64; 256], n: usize, id: u64) -> usize {
     i
 }
 
-fn insert_row(rows: &[u64; 256], p: usize, value: u64) -> [u64; 256] {
+pub fn insert_row(rows: &[u64; 256], p: usize, value: u64) -> [u64; 256] {
     let mut into = [0; 256];
     for i in 0..256 {
         into[i] = if i < p {
@@ -158,7 +159,7 @@ fn insert_row(rows: &[u64; 256], p: usize, value: u64) -> [u64; 256] {
     into
 }
 
-fn delete_row(rows: &[u64; 256], p: usize) -> [u64; 256] {
+pub fn delete_row(rows: &[u64; 256], p: usize) -> [u64; 256] {
     let mut into = [0; 256];
     for i in 0..255 {
         into[i] = if i < p { rows[i] } else { rows[i + 1] };
@@ -183,7 +184,7 @@ fn rank(remainders: &[u64; 256], ids: &[u64; 256], n: usize, p: usize) -> u64 {
     before
 }
 
-fn shares(range: u64, ids: &[u64; 256], capacities: &[u64; 256], n: usize) -> [u64; 256] {
+pub fn shares(range: u64, ids: &[u64; 256], capacities: &[u64; 256], n: usize) -> [u64; 256] {
     let mut c = 0;
     for i in 0..n {
         c += capacities[i];
@@ -341,15 +342,15 @@ fn quotas(points: &mut [u64; 65536], ids: &[u64; 256], due: &[u64; 256], n: usiz
 
 // The points kept in front, taken and kept behind; the flag afterwards; whether the gap ends where
 // the next interval begins.
-struct Cut {
-    front: u64,
-    gap: u64,
-    back: u64,
-    flag: bool,
-    touch: bool,
+pub struct Cut {
+    pub front: u64,
+    pub gap: u64,
+    pub back: u64,
+    pub flag: bool,
+    pub touch: bool,
 }
 
-fn cut_interval(release: u64, size: u64, flag: bool, touch: bool) -> Cut {
+pub fn cut_interval(release: u64, size: u64, flag: bool, touch: bool) -> Cut {
     if release == 0 {
         return Cut { front: size, gap: 0, back: 0, flag, touch: false };
     }
@@ -545,7 +546,7 @@ fn carried(plan: Plan, list: &mut [u64]) -> ChangeAnswer {
     ChangeAnswer { refusal: plan.refusal, moved: plan.moves.points, count: plan.moves.count, pool: plan.pool }
 }
 
-fn outside(most: u64, x: u64) -> bool {
+pub fn outside(most: u64, x: u64) -> bool {
     x < 1 || most < x
 }
 

@@ -6,6 +6,8 @@
 //   ours H, rust H   one of the two alone, for an instruction counter
 //   time H           each five times, in turn, and the best of the five
 //   text H           the history
+mod plans;
+#[allow(dead_code)]
 #[path = "../changes/slicing.rs"]
 mod slicing;
 
@@ -226,7 +228,8 @@ mod text {
 
 mod rust {
     use super::{LONGEST, ROOM};
-    use crate::slicing::{add, fresh, remove, resize, ChangeAnswer, Pool};
+    use crate::plans::{self, fresh, plan, renew, Call, Opened};
+    use crate::slicing::outside;
 
     // Numbers and capacities.
 
@@ -292,10 +295,6 @@ mod rust {
         Resize(u64, u64),
     }
 
-    fn outside(most: u64, x: u64) -> bool {
-        x < 1 || most < x
-    }
-
     fn range_line(first: &[u8], second: &[u8]) -> Result<Line, u32> {
         let range = number(first).ok_or(1u32)?;
         let limit = number(second).ok_or(1u32)?;
@@ -353,9 +352,13 @@ mod rust {
 
     // A line, applied.
 
+    // An opened pool, its table, and scratch.
     struct History {
         begun: bool,
-        pool: Pool,
+        pool: Opened,
+        table: [u64; plans::ROOM],
+        work: [u64; plans::ROOM],
+        next: [u64; plans::ROOM],
     }
 
     struct LineResult {
@@ -368,32 +371,33 @@ mod rust {
         LineResult { refusal, moved: 0, count: 0 }
     }
 
-    fn ranged(history: &mut History, range: u64, limit: u64) -> LineResult {
+    fn range_read(history: &mut History, range: u64, limit: u64) -> LineResult {
         if history.begun {
             return refused(3);
         }
-        let answer = fresh(range, limit);
         history.begun = true;
-        history.pool = answer.pool;
-        LineResult { refusal: answer.refusal, moved: 0, count: 0 }
+        history.pool = fresh(range, limit);
+        refused(0)
     }
 
-    fn changed(history: &mut History, change: impl FnOnce(&Pool, &mut [u64]) -> ChangeAnswer) -> LineResult {
+    fn changed(history: &mut History, call: Call) -> LineResult {
         if !history.begun {
             return refused(3);
         }
-        let mut places = [0; 16384];
-        let answer = change(&history.pool, &mut places);
-        history.pool = answer.pool;
-        LineResult { refusal: answer.refusal, moved: answer.moved, count: answer.count }
+        let made = plan(&history.pool, call, 4096, &history.table, &mut history.work, &mut history.next);
+        if made.refusal == 0 {
+            renew(&mut history.table, &history.next, made.after.intervals);
+        }
+        history.pool = made.after;
+        LineResult { refusal: made.refusal, moved: made.moved, count: made.count }
     }
 
     fn apply(history: &mut History, text: &[u8]) -> LineResult {
         match line(text) {
-            Ok(Line::Range(range, limit)) => ranged(history, range, limit),
-            Ok(Line::Add(id, value)) => changed(history, |pool, places| add(pool, id, value, places)),
-            Ok(Line::Remove(id)) => changed(history, |pool, places| remove(pool, id, places)),
-            Ok(Line::Resize(id, value)) => changed(history, |pool, places| resize(pool, id, value, places)),
+            Ok(Line::Range(range, limit)) => range_read(history, range, limit),
+            Ok(Line::Add(id, value)) => changed(history, Call::Add(id, value)),
+            Ok(Line::Remove(id)) => changed(history, Call::Remove(id)),
+            Ok(Line::Resize(id, value)) => changed(history, Call::Resize(id, value)),
             Err(refusal) => refused(refusal),
         }
     }
@@ -426,13 +430,14 @@ mod rust {
         place + text.len()
     }
 
-    fn put_table(out: &mut [u8], place: usize, pool: &Pool) -> usize {
+    fn put_table(out: &mut [u8], place: usize, history: &History) -> usize {
         let mut last = put_text(out, place, b"table\n");
-        let q = pool.intervals;
-        for i in 0..q {
-            let start = pool.starts[i] as u64;
-            let end = if i + 1 < q { pool.starts[i + 1] as u64 } else { pool.range };
-            last = put_line(out, last, [start, end - start, pool.owners[i] as u64]);
+        let mut start = 0;
+        for i in 0..history.pool.intervals {
+            let size = history.table[i] / 65536;
+            let row = (history.table[i] % 65536) as usize;
+            last = put_line(out, last, [start, size, history.pool.ids[row]]);
+            start += size;
         }
         last
     }
@@ -440,7 +445,13 @@ mod rust {
     // The transcript.
 
     fn replay(text: &[u8], out: &mut [u8]) -> usize {
-        let mut history = History { begun: false, pool: fresh(1, 1).pool };
+        let mut history = History {
+            begun: false,
+            pool: fresh(1, 1),
+            table: [0; plans::ROOM],
+            work: [0; plans::ROOM],
+            next: [0; plans::ROOM],
+        };
         let mut line = 1;
         let mut from = 0;
         let mut place = 0;
@@ -452,7 +463,7 @@ mod rust {
             line += 1;
             from += end + 1;
         }
-        put_table(out, place, &history.pool)
+        put_table(out, place, &history)
     }
 
     #[inline(never)]
