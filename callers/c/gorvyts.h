@@ -13,10 +13,10 @@
  * numbers may be stored again, unchanged). Bytes past a written image stay, and so do the places of a
  * list past its moves.
  *
- * Stack: measured on x86-64 (callers/c/stack.c), the changes need 1,760 KB, gorvyts_replay 1,750,
- * gorvyts_transcript 1,730, gorvyts_owner and gorvyts_open 810, gorvyts_check and the lookups of copies 790,
- * gorvyts_fresh 750; the lookups of an opened pool 4. A thread of 1 MB is too small for a change: it ends the
- * process.
+ * Stack: measured on x86-64 (callers/c/stack.c), the changes need 1,700 KB, gorvyts_replay 1,000,
+ * gorvyts_owner and gorvyts_open 810, gorvyts_check and the lookups of copies 790, gorvyts_fresh 750,
+ * gorvyts_transcript 360, gorvyts_owner_in and gorvyts_copies_in 4. A thread of 1 MB is too small for a
+ * change: it ends the process.
  *
  * Cost: every call on an image reads and checks all of it, which takes far longer than the lookup itself; a
  * single gorvyts_owner or gorvyts_copies takes as long as some hundred blocks of gorvyts_copies_of_many,
