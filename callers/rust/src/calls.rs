@@ -5,7 +5,7 @@
 //! where that is 12, and the others are zeros. Where there are too few places a call returns 17 and stores
 //! nothing at all. Beside those places a refused call leaves every value, and places past a result stay.
 //!
-//! A change takes 1.8 MB of stack, a lookup 0.8 MB: the main thread has them, and so has a thread that
+//! A change takes 1.7 MB of stack, a lookup 0.8 MB: the main thread has them, and so has a thread that
 //! `std::thread` makes (2 MB), but not one of 1 MB. A lookup of an opened pool takes 4 KB. `gorvyts.h` has the
 //! figures.
 
