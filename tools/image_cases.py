@@ -1,20 +1,20 @@
-"""Cases for crates/call_vectors from a folder of test vectors (calls.in, calls.out): images read, written and damaged.
+"""Cases for crates/test_calls from a folder of test vectors (calls.in, calls.out): images read, written and damaged.
 
-The head of crates/call_vectors/src/main.rt describes the lines, here of the kinds 10 to 13. The cases:
+The head of crates/test_calls/src/main.rt describes the lines. The cases:
 
-- each read and write line of calls.in; the reference below is held to calls.out
 - each image of calls.in with a byte more, a byte less, and cut to 18 and 19 bytes
 - pools at the limits, one of 256 devices and 4,096 intervals, and pools that are not valid, written and read back
 - every change of a single byte of several images
 
-The reference follows document 01, 'Image', 'Pool and range', 'Shares' and 'Where a call stops'.
+The reference follows document 01, 'Image', 'Pool and range', 'Shares' and 'Where a call stops'. It is held to each read and write line
+of calls.in.
 """
 from hashlib import sha1
 
-from change_cases import INVALID, Pool, image, line, number
+from call_pools import INVALID, SMALLEST, Pool, calls_of, line, number, pool_of, spelled
 
 SIZE = 32768
-EMPTY = bytes.fromhex("52534c00010000000000000001000100000000")
+EMPTY = SMALLEST.image()
 
 
 def rounded(size, devices):
@@ -32,7 +32,7 @@ def sound(b):
     n, q = number(b[15:17]), number(b[17:19])
     if len(b) != 19 + 6 * n + 6 * q:
         return False
-    pool = image(b.hex())
+    pool = pool_of(b)
     ids = [d for d, _ in pool.devices]
     starts = [s for s, _ in pool.rows]
     owners = [d for _, d in pool.rows]
@@ -59,37 +59,24 @@ def read(b):
     return (0, b) if sound(b) else (16, EMPTY)
 
 
+def write(b, size):
+    """The refusal number, the length and the buffer afterwards."""
+    if size < len(b):
+        return 17, 0, bytes([170] * size)
+    return 0, len(b), b + bytes([170] * (size - len(b)))
+
+
 def read_case(b):
     refusal, made = read(b)
-    return line(10, *b), line(refusal, *made)
-
-
-def write_case(b, size):
-    if size < len(b):
-        return line(11, size, *b), line(17, 0, *[170] * size)
-    return line(11, size, *b), line(0, len(b), *b, *[170] * (size - len(b)))
-
-
-def written(pool):
-    """The image of the numbers of a pool."""
-    head = b"RSL" + (1).to_bytes(2, "big") + pool.size.to_bytes(8, "big")
-    head += b"".join(x.to_bytes(2, "big") for x in (pool.limit, pool.n, pool.q))
-    devices = b"".join(d.to_bytes(2, "big") + c.to_bytes(4, "big") for d, c in pool.devices)
-    return head + devices + b"".join(s.to_bytes(4, "big") + d.to_bytes(2, "big") for s, d in pool.rows)
-
-
-def words(b):
-    digest = sha1(b).digest()
-    return [number(digest[i : i + 4]) for i in range(0, 20, 4)]
+    return line("read", spelled(b)), line(refusal, made.hex())
 
 
 def pool_case(pool, valid=True):
-    given = "12" + pool.loaded()[1:]
-    if not valid:
-        return given, line(2, 0, *words(bytes([170] * SIZE)), 14, *words(EMPTY))
-    b = written(pool)
-    assert read(b) == (0, b)
-    return given, line(0, len(b), *words(b + bytes([170] * (SIZE - len(b)))), 0, *words(b))
+    refusal, size, buffer = write(pool.image(), SIZE) if valid else (2, 0, bytes([170] * SIZE))
+    again, made = read(buffer[:size])
+    assert again == (0 if valid else 14)
+    yield pool.keep()
+    yield line("reread", "."), line(refusal, size, sha1(buffer).hexdigest(), again, sha1(made).hexdigest())
 
 
 def damage_case(b):
@@ -98,35 +85,26 @@ def damage_case(b):
         for x in range(256):
             if x != b[i]:
                 counts[read(b[:i] + bytes([x]) + b[i + 1 :])[0]] += 1
-    return line(13, *b), line(*counts.values(), 0)
+    return line("single", spelled(b)), line(*counts.values(), 0)
 
 
 def images_of(folder):
-    """The read and write lines: the word, the bytes, the size or None, the answer."""
-    lines = zip((folder / "calls.in").read_text().split("\n"), (folder / "calls.out").read_text().split("\n"))
-    for call, answer in lines:
-        word, *rest = call.split() or [""]
-        if word in ("read", "write"):
-            b = b"" if rest[0] == "-" else bytes.fromhex(rest[0])
-            yield word, b, int(rest[1]) if word == "write" else None, answer.split()
+    """The bytes of the read and write lines of calls.in."""
+    return [bytes.fromhex(words[1].strip("-")) for words, _ in calls_of(folder, "read", "write")]
 
 
-def calls(folder):
-    for word, b, size, answer in images_of(folder):
-        if word == "read":
-            refusal, made = read(b)
-            assert [str(refusal), made.hex()] == answer, (b.hex(), answer)
-            if b:
-                yield read_case(b)
-            continue
-        given, printed = write_case(b, size)
-        refusal, length, *rest = printed.split()
-        assert answer == [refusal, length, bytes(map(int, rest)).hex() or "-"], (b.hex(), size, answer)
-        yield given, printed
+def hold(folder):
+    """Stops where calls.out answers otherwise than the reference."""
+    for (_, text), answer in calls_of(folder, "read"):
+        refusal, made = read(bytes.fromhex(text.strip("-")))
+        assert [str(refusal), made.hex()] == answer, (text, answer)
+    for (_, text, size), answer in calls_of(folder, "write"):
+        refusal, length, buffer = write(bytes.fromhex(text), int(size))
+        assert [str(refusal), str(length), spelled(buffer)] == answer, (text, size, answer)
 
 
 def other_lengths(folder):
-    for _, b, _, _ in images_of(folder):
+    for b in images_of(folder):
         if read(b)[0] == 0:
             for other in (b + b"\0", b[:-1], b[:18], b[:19]):
                 yield read_case(other)
@@ -142,17 +120,17 @@ def largest():
 def pools():
     for size in (1, 2**32 - 1, 2**32):
         for limit in (1, 4096):
-            yield pool_case(Pool(size, limit, [], []))
-            yield pool_case(Pool(size, limit, [(65535, 1)], [(0, 65535)]))
-    yield pool_case(largest())
+            yield from pool_case(Pool(size, limit, [], []))
+            yield from pool_case(Pool(size, limit, [(65535, 1)], [(0, 65535)]))
+    yield from pool_case(largest())
     for pool in INVALID:
-        yield pool_case(pool, False)
+        yield from pool_case(pool, False)
 
 
 def damaged(folder):
     """The first image of calls.in of each small size."""
     found = {}
-    for _, b, _, _ in images_of(folder):
+    for b in images_of(folder):
         if read(b)[0] == 0 and len(b) <= 67:
             found.setdefault(len(b), b)
     for b in found.values():
@@ -161,4 +139,5 @@ def damaged(folder):
 
 def cases(folder):
     """The lines given, with what is printed of each."""
-    return [*calls(folder), *other_lengths(folder), *pools(), *damaged(folder)]
+    hold(folder)
+    return [*other_lengths(folder), *pools(), *damaged(folder)]

@@ -1,8 +1,7 @@
-"""Cases for crates/call_vectors from a folder of test vectors (calls.in, calls.out): owners, points and copies.
+"""Cases for crates/test_calls from a folder of test vectors (calls.in, calls.out): owners, points and copies.
 
-The head of crates/call_vectors/src/main.rt describes the lines, here of the kinds 1 and 7 to 9. The cases:
+The head of crates/test_calls/src/main.rt describes the lines. The cases, all of the kept pool:
 
-- each owner, point and copies line of calls.in; the reference below is held to calls.out
 - owners around the range and at each start and the point before it, of a pool of each range in calls.in
 - owners and copies in a table of 256 devices and 4,096 intervals
 - points and copies at the limits of their arguments
@@ -10,11 +9,12 @@ The head of crates/call_vectors/src/main.rt describes the lines, here of the kin
 - copies whose last owner is found by the last probe, and that miss it
 - lookups of pools that are not valid, each refused with 2
 
-The reference follows document 01, 'Points and copies' and 'Where a call stops', for valid pools.
+The reference follows document 01, 'Points and copies' and 'Where a call stops', for valid pools. It is held to each owner, point and
+copies line of calls.in.
 """
 from hashlib import sha1
 
-from change_cases import INVALID, Pool, image, line
+from call_pools import INVALID, Pool, calls_of, line, pool_of
 
 LARGEST = 2**64 - 1
 MOST = 2**32 - 1
@@ -68,44 +68,38 @@ def copies(pool, block, k, lookups, probes):
 
 
 def owner_case(pool, x):
-    return line(7, x), line(*owner(pool, x))
+    return line("owner", ".", x), line(*owner(pool, x))
 
 
 def point_case(*numbers):
-    return line(8, *numbers), line(*point(*numbers))
+    return line("point", *numbers), line(*point(*numbers))
 
 
 def copies_case(pool, *numbers):
-    return line(9, *numbers), line(*copies(pool, *numbers))
+    return line("copies", ".", *numbers), line(*copies(pool, *numbers))
 
 
 def lookups_of(folder):
-    """The owner, point and copies lines: the word, the pool or None, the other numbers, the answer."""
-    lines = zip((folder / "calls.in").read_text().split("\n"), (folder / "calls.out").read_text().split("\n"))
-    for call, answer in lines:
-        word, *rest = call.split() or [""]
-        if word in ("owner", "copies"):
-            yield word, image(rest[0]), list(map(int, rest[1:])), answer
-        if word == "point":
-            yield word, None, list(map(int, rest)), answer
+    """The owner and copies lines of calls.in: the word, the pool, the other numbers, the numbers of the answer."""
+    for (word, image, *numbers), answer in calls_of(folder, "owner", "copies"):
+        yield word, pool_of(bytes.fromhex(image)), [*map(int, numbers)], [*map(int, answer)]
 
 
-def calls(folder):
+def hold(folder):
+    """Stops where calls.out answers otherwise than the reference."""
     for word, pool, numbers, answer in lookups_of(folder):
-        if word == "point":
-            given, printed = point_case(*numbers)
-        else:
-            yield pool.loaded(), ""
-            given, printed = (owner_case if word == "owner" else copies_case)(pool, *numbers)
-        assert printed == answer + "\n", (word, numbers, printed, answer)
-        yield given, answer + "\n"
+        found = owner(pool, *numbers) if word == "owner" else copies(pool, *numbers)
+        assert [*found] == answer, (word, numbers, found, answer)
+    for (_, *numbers), answer in calls_of(folder, "point"):
+        found = point(*map(int, numbers))
+        assert [*found] == [*map(int, answer)], (numbers, found, answer)
 
 
 def largest_tables(folder):
     """For each range of calls.in, the pool with the most intervals."""
     found = {}
     for _, pool, _, _ in lookups_of(folder):
-        if pool and (pool.size not in found or found[pool.size].q < pool.q):
+        if pool.size not in found or found[pool.size].q < pool.q:
             found[pool.size] = pool
     return list(found.values())
 
@@ -128,13 +122,13 @@ def owners(folder):
     for pool in largest_tables(folder) + without_devices(folder):
         starts = [start for start, _ in pool.rows]
         around = [start - 1 for start in starts if start]
-        yield pool.loaded(), ""
+        yield pool.keep()
         for x in sorted({0, pool.size - 1, pool.size, pool.size + 1, MOST, LARGEST, *starts, *around}):
             yield owner_case(pool, x)
 
 
 def wide():
-    yield WIDE.loaded(), ""
+    yield WIDE.keep()
     for x in sorted({0, 1, 2, 4095, 4096, 8189, 8190, 8191, 8192, *range(0, 8192, 97), LARGEST}):
         yield owner_case(WIDE, x)
     for k in COPIES:
@@ -159,7 +153,7 @@ def several(folder):
 def limits(folder):
     """k at its limits, and counters close to their largest number: `made` probes reach it or not."""
     for pool in several(folder):
-        yield pool.loaded(), ""
+        yield pool.keep()
         for k in COPIES:
             for block in BLOCKS:
                 made = copies(pool, block, k, 0, 0)[9]
@@ -177,22 +171,23 @@ def last_probe():
         last = point(block, 255, size)[1]
         for start in (last, last + 1, last - few + 1, last - few, last - few // 2):
             pool = Pool(size, 3, devices, [(0, 1), (start, 2), (start + few, 1)])
-            yield pool.loaded(), ""
+            yield pool.keep()
             for k in (1, 2, 3):
                 yield copies_case(pool, block, k, 5, 6)
 
 
 def invalid():
     for pool in INVALID:
-        yield pool.loaded(), ""
+        yield pool.keep()
         for x in (0, 4, 5, pool.size - 1, pool.size, LARGEST):
             if 0 <= x <= LARGEST:
-                yield line(7, x), line(2, 0)
+                yield line("owner", ".", x), line(2, 0)
         for k in (0, 1, 3, 8, 9, LARGEST):
             for counters in ((0, 0), (5, 6), (MOST, MOST)):
-                yield line(9, 1, k, *counters), line(2, *[0] * 9, *counters)
+                yield line("copies", ".", 1, k, *counters), line(2, *[0] * 9, *counters)
 
 
 def cases(folder):
     """The lines given, with what is printed of each."""
-    return [*calls(folder), *owners(folder), *wide(), *points(), *limits(folder), *last_probe(), *invalid()]
+    hold(folder)
+    return [*owners(folder), *wide(), *points(), *limits(folder), *last_probe(), *invalid()]

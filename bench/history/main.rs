@@ -7,9 +7,7 @@
 //   time H           each five times, in turn, and the best of the five
 //   text H           the history
 mod plans;
-#[allow(dead_code)]
-#[path = "../changes/slicing.rs"]
-mod slicing;
+mod rules;
 
 use std::hint::black_box;
 use std::io::Write;
@@ -229,7 +227,7 @@ mod text {
 mod rust {
     use super::{LONGEST, ROOM};
     use crate::plans::{self, fresh, plan, renew, Call, Opened};
-    use crate::slicing::outside;
+    use crate::rules::outside;
 
     // Numbers and capacities.
 

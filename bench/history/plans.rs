@@ -1,7 +1,7 @@
 // The steps of crates/six_steps, opened and plans: a change of an opened pool, worked out by device row.
 // A run is one number, size × 65,536 + row; a piece has 256 more where it is taken; a turn is old × 256 +
 // new.
-use crate::slicing::{cut_interval, delete_row, insert_row, outside, shares};
+use crate::rules::{cut_interval, delete_row, insert_row, outside, shares};
 
 // Two runs for each of 4,096 intervals, and one for each of 256 devices.
 pub const ROOM: usize = 8448;

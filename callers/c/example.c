@@ -1,4 +1,5 @@
-/* Replays a history, asks for owners and copies, also of the opened pool, adds a device and lists the moves. */
+/* Replays a history, lists the devices and the intervals, asks for shares, for owners and for copies, also of the
+ * opened pool, adds a device and lists the moves. */
 #include <inttypes.h>
 #include <stdio.h>
 #include <string.h>
@@ -18,6 +19,7 @@ static uint8_t image[GORVYTS_IMAGE_MOST];
 static uint8_t next[GORVYTS_IMAGE_MOST];
 static uint8_t out[GORVYTS_TRANSCRIPT_ROOM];
 static uint64_t list[4 * GORVYTS_MOVES_MOST];
+static uint64_t rows[3 * GORVYTS_INTERVALS_MOST];
 static struct gorvyts_pool pool;
 
 static const char *sentence(uint32_t number)
@@ -25,6 +27,7 @@ static const char *sentence(uint32_t number)
     switch (number) {
     case 0: return "accepted";
     case GORVYTS_ID_PRESENT: return "the device to add is present";
+    case GORVYTS_ID_ABSENT: return "the device is absent";
     case GORVYTS_POINT_PAST_RANGE: return "the point is at or above the range";
     default: return "refused";
     }
@@ -32,7 +35,7 @@ static const char *sentence(uint32_t number)
 
 int main(void)
 {
-    uint64_t answer[3];
+    uint64_t answer[4];
     uint32_t tally[2] = {0, 0}, row[10], number;
 
     if (gorvyts_transcript((const uint8_t *)history, strlen(history), out, sizeof out, answer, 3) != 0)
@@ -43,6 +46,23 @@ int main(void)
         return 1;
     size_t length = answer[0];
     printf("image of %zu bytes\n", length);
+
+    if (gorvyts_numbers(image, length, answer, 4) != 0)
+        return 1;
+    printf("range %" PRIu64 ", limit %" PRIu64 ", %" PRIu64 " devices, %" PRIu64 " intervals\n",
+           answer[0], answer[1], answer[2], answer[3]);
+    if (gorvyts_devices(image, length, rows, 3 * answer[2]) != 0)
+        return 1;
+    for (uint64_t i = 0; i < answer[2]; i++)
+        printf("device %" PRIu64 ": capacity %" PRIu64 ", share %" PRIu64 "\n", rows[3 * i], rows[3 * i + 1], rows[3 * i + 2]);
+    if (gorvyts_intervals(image, length, rows, 3 * answer[3]) != 0)
+        return 1;
+    for (uint64_t i = 0; i < answer[3]; i++)
+        printf("from %" PRIu64 ", %" PRIu64 " points: device %" PRIu64 "\n", rows[3 * i], rows[3 * i + 1], rows[3 * i + 2]);
+    for (uint64_t id = 2; id <= 3; id++) {
+        number = gorvyts_share(image, length, id, answer, 1);
+        printf("share of %" PRIu64 ": %" PRIu32 ", %s, %" PRIu64 " points\n", id, number, sentence(number), answer[0]);
+    }
 
     for (uint64_t point = 0; point <= 100; point += 25) {
         number = gorvyts_owner(image, length, point, answer, 3);

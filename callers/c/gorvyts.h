@@ -9,14 +9,14 @@
  * Results stand in the first places of `answer` (or `row`). On a refusal the places of `answer` are zeros;
  * of a row, row[0] is the number that is returned, row[9] is 256 where that is 12, and the others are
  * zeros. Where there are too few places the call returns 17 and stores nothing at all. Beside those
- * places a refused call leaves every value: buffers, list and tally hold what was lent (the tally's two
+ * places a refused call leaves every value: buffers, list, rows and tally hold what was lent (the tally's two
  * numbers may be stored again, unchanged). Bytes past a written image stay, and so do the places of a
- * list past its moves.
+ * list past its moves and of rows past the last one.
  *
- * Stack: measured on x86-64 (callers/c/stack.c), the changes need 1,700 KB, gorvyts_replay 1,000,
- * gorvyts_owner and gorvyts_open 810, gorvyts_check and the lookups of copies 790, gorvyts_fresh 750,
- * gorvyts_transcript 360, gorvyts_owner_in and gorvyts_copies_in 4. A thread of 1 MB is too small for a
- * change: it ends the process.
+ * Stack: measured on x86-64 (callers/c/stack.c), the changes need 460 KB, gorvyts_replay 360,
+ * gorvyts_transcript 340, gorvyts_share 310, gorvyts_open and the lookups on an image 280, gorvyts_check,
+ * gorvyts_numbers, gorvyts_devices and gorvyts_intervals 260, gorvyts_fresh 90, gorvyts_owner_in and
+ * gorvyts_copies_in 4. A thread of 256 KB is too small for most of them: it ends the process.
  *
  * Cost: every call on an image reads and checks all of it, which takes far longer than the lookup itself; a
  * single gorvyts_owner or gorvyts_copies takes as long as some hundred blocks of gorvyts_copies_of_many,
@@ -42,7 +42,7 @@ enum {
     GORVYTS_OUTSIDE_LIMITS = 2,   /* a number outside its limits, or too many bytes */
     GORVYTS_LINE_ORDER = 3,       /* a change before a range line, or a second range line */
     GORVYTS_ID_PRESENT = 4,       /* add: the id is present */
-    GORVYTS_ID_ABSENT = 5,        /* remove, resize: the id is absent */
+    GORVYTS_ID_ABSENT = 5,        /* remove, resize, share: the id is absent */
     GORVYTS_TOO_MANY_DEVICES = 6, /* add: 256 devices are present */
     GORVYTS_ONLY_DEVICE = 7,      /* remove: it is the only device */
     GORVYTS_TOO_MANY_INTERVALS = 8, /* a change: the new table has over M intervals */
@@ -57,10 +57,13 @@ enum {
     GORVYTS_BUFFER_TOO_SHORT = 17 /* a buffer, a row or an answer is too short */
 };
 
-/* The bytes of the largest image; the bytes that every transcript fits in; the most moves of a change. */
+/* The bytes of the largest image; the bytes that every transcript fits in; the most moves of a change; the
+ * most devices and the most intervals of a pool. */
 #define GORVYTS_IMAGE_MOST 26131
 #define GORVYTS_TRANSCRIPT_ROOM 3145728
 #define GORVYTS_MOVES_MOST 8448
+#define GORVYTS_DEVICES_MOST 256
+#define GORVYTS_INTERVALS_MOST 4096
 
 /* Whether the bytes are the image of a pool: 0, 14, 15 or 16. */
 uint32_t gorvyts_check(const uint8_t *image, size_t image_size);
@@ -77,6 +80,26 @@ uint32_t gorvyts_replay(const uint8_t *text, size_t text_size, uint8_t *image, s
 /* What `slices` prints of a history: what became of each line, and the table. answer[0]: its length.
  * Refusals: 17 for a buffer of less than GORVYTS_TRANSCRIPT_ROOM bytes. */
 uint32_t gorvyts_transcript(const uint8_t *text, size_t text_size, uint8_t *out, size_t out_size, uint64_t *answer, size_t answer_size);
+
+/* The numbers of a pool. answer[0]: the range R, answer[1]: the interval limit M, answer[2]: the number of
+ * devices, answer[3]: the number of intervals.
+ * Refusals: 14, 15, 16; 17 where the answer has under 4 places. */
+uint32_t gorvyts_numbers(const uint8_t *image, size_t image_size, uint64_t *answer, size_t answer_size);
+
+/* The share of a device. answer[0]: its points.
+ * Refusals: 14, 15, 16; 2 where the id is not within 1 to 65,535; 5; 17. */
+uint32_t gorvyts_share(const uint8_t *image, size_t image_size, uint64_t id, uint64_t *answer, size_t answer_size);
+
+/* The devices of a pool by rising id, three numbers each in `rows`: id, capacity in thousandths of a TB, share.
+ * rows_size counts numbers; answer[2] of gorvyts_numbers is the number of rows.
+ * Refusals: 14, 15, 16; 17 where there are under 3 numbers for each device. Then the rows stay: no place holds
+ * the number. */
+uint32_t gorvyts_devices(const uint8_t *image, size_t image_size, uint64_t *rows, size_t rows_size);
+
+/* The intervals of a pool by rising start, three numbers each in `rows`: start, length, owner. answer[3] of
+ * gorvyts_numbers is the number of rows.
+ * Refusals: 14, 15, 16; 17 where there are under 3 numbers for each interval. Then the rows stay. */
+uint32_t gorvyts_intervals(const uint8_t *image, size_t image_size, uint64_t *rows, size_t rows_size);
 
 /* Changes: from the image of a pool to that of the changed pool, in `next`. The moves go to `list`, four
  * numbers each: start, length, old owner, new owner; list_size counts numbers, so that it has

@@ -18,10 +18,11 @@ static const char history[] =
 
 static const char *const names[] = {
     "check", "fresh", "replay", "transcript", "add", "remove", "resize", "owner", "copies", "copies_of_many", "open", "owner_in", "copies_in",
+    "numbers", "share", "devices", "intervals",
 };
 
 static uint8_t image[GORVYTS_IMAGE_MOST], next[GORVYTS_IMAGE_MOST], out[GORVYTS_TRANSCRIPT_ROOM];
-static uint64_t list[4 * GORVYTS_MOVES_MOST], answer[3];
+static uint64_t list[4 * GORVYTS_MOVES_MOST], answer[4];
 static uint32_t tally[2], row[10];
 static struct gorvyts_pool pool;
 static size_t length;
@@ -44,7 +45,11 @@ static uint32_t call(int which)
     case 9: return gorvyts_copies_of_many(image, length, blocks, 1, 2, tally, 2, row, 10);
     case 10: return gorvyts_pool_open(&pool, image, length);
     case 11: return gorvyts_pool_owner(&pool, 50, answer);
-    default: return gorvyts_pool_copies(&pool, 7, 2, tally, row);
+    case 12: return gorvyts_pool_copies(&pool, 7, 2, tally, row);
+    case 13: return gorvyts_numbers(image, length, answer, 4);
+    case 14: return gorvyts_share(image, length, 3, answer, 1);
+    case 15: return gorvyts_devices(image, length, list, places);
+    default: return gorvyts_intervals(image, length, list, places);
     }
 }
 
@@ -80,7 +85,7 @@ int main(void)
     if (gorvyts_replay((const uint8_t *)history, strlen(history), image, sizeof image, answer, 3) != 0)
         return 1;
     length = answer[0];
-    for (int which = 0; which < 13; which++) {
+    for (int which = 0; which < 17; which++) {
         size_t bytes = taken(which);
         if (bytes == 0)
             return 1;

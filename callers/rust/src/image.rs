@@ -1,4 +1,4 @@
-use crate::calls::{self, IMAGE_MOST, MOVES_MOST, PLACES, TRANSCRIPT_ROOM};
+use crate::calls::{self, DEVICES_MOST, IMAGE_MOST, INTERVALS_MOST, MOVES_MOST, PLACES, TRANSCRIPT_ROOM};
 use crate::Refusal;
 
 /// The image of a pool: bytes that the library made or accepted.
@@ -37,6 +37,41 @@ pub struct Move {
     pub from: u64,
     /// The id of the new owner.
     pub to: u64,
+}
+
+/// The numbers of a pool.
+#[derive(Clone, Copy, Debug, PartialEq, Eq, Hash)]
+pub struct Numbers {
+    /// The range R: the points are those below it.
+    pub range: u64,
+    /// The interval limit M.
+    pub limit: u64,
+    /// The number of devices.
+    pub devices: u64,
+    /// The number of intervals.
+    pub intervals: u64,
+}
+
+/// A device of a pool.
+#[derive(Clone, Copy, Debug, PartialEq, Eq, Hash)]
+pub struct DeviceRow {
+    /// The id.
+    pub id: u64,
+    /// The capacity, in thousandths of a TB.
+    pub capacity: u64,
+    /// The number of points that it owns.
+    pub share: u64,
+}
+
+/// An interval of a pool's table.
+#[derive(Clone, Copy, Debug, PartialEq, Eq, Hash)]
+pub struct IntervalRow {
+    /// The first point.
+    pub start: u64,
+    /// The number of points, at least 1.
+    pub length: u64,
+    /// The id of the device that owns them.
+    pub owner: u64,
 }
 
 /// Where the copies of a block are.
@@ -87,6 +122,38 @@ impl Image {
         self.bytes
     }
 
+    /// Range, limit, number of devices and number of intervals.
+    pub fn numbers(&self) -> Numbers {
+        let mut answer = [0; 4];
+        let number = calls::numbers(&self.bytes, &mut answer);
+        assert_eq!(number, 0, "an image was refused, or its answer");
+        let [range, limit, devices, intervals] = answer;
+        Numbers { range, limit, devices, intervals }
+    }
+
+    /// The number of points that a device owns. Refusals: 2, 5.
+    pub fn share(&self, id: u64) -> Result<u64, Refusal> {
+        let mut answer = [0];
+        Refusal::unless_accepted(calls::share(&self.bytes, id, &mut answer))?;
+        Ok(answer[0])
+    }
+
+    /// The devices, by rising id.
+    pub fn devices(&self) -> Vec<DeviceRow> {
+        let rows = self.rows(DEVICES_MOST, calls::devices);
+        // Past the last row the places are still 0, and no id is.
+        let rows = rows.chunks_exact(3).take_while(|row| row[0] != 0);
+        rows.map(|row| DeviceRow { id: row[0], capacity: row[1], share: row[2] }).collect()
+    }
+
+    /// The intervals, by rising start.
+    pub fn intervals(&self) -> Vec<IntervalRow> {
+        let rows = self.rows(INTERVALS_MOST, calls::intervals);
+        // Past the last row the places are still 0, and no length is.
+        let rows = rows.chunks_exact(3).take_while(|row| row[1] != 0);
+        rows.map(|row| IntervalRow { start: row[0], length: row[1], owner: row[2] }).collect()
+    }
+
     /// The pool with a further device; the capacity is in thousandths of a TB. Refusals: 2, 4, 6, 8.
     pub fn add(&self, id: u64, capacity: u64) -> Result<Change, Refusal> {
         Image::changed(|next, list, answer| calls::add(&self.bytes, id, capacity, next, list, answer))
@@ -131,6 +198,13 @@ impl Image {
         let number = calls::open(&self.bytes, &mut starts[..], &mut owners[..], &mut numbers);
         assert_eq!(number, 0, "an image was refused, or its arrays");
         Opened { starts, owners, numbers }
+    }
+
+    fn rows(&self, most: usize, call: impl FnOnce(&[u8], &mut [u64]) -> u32) -> Vec<u64> {
+        let mut rows = vec![0; 3 * most];
+        let number = call(&self.bytes, &mut rows);
+        assert_eq!(number, 0, "an image was refused, or its rows");
+        rows
     }
 
     fn made(call: impl FnOnce(&mut [u8], &mut [u64]) -> u32) -> Result<Image, Refusal> {

@@ -5,12 +5,14 @@
 //! lends, as `gorvyts.h` has them.
 //!
 //! ```
-//! use gorvyts::{Image, Refusal, Tally};
+//! use gorvyts::{Image, IntervalRow, Refusal, Tally};
 //!
 //! let one = Image::fresh(100, 16)?.add(1, 1000)?.image;
 //! let change = one.add(2, 1000)?;
 //! assert_eq!(change.moved, 50);
 //! assert_eq!(change.image.owner(99), Ok(2));
+//! assert_eq!(change.image.share(2), Ok(50));
+//! assert_eq!(change.image.intervals()[1], IntervalRow { start: 50, length: 50, owner: 2 });
 //!
 //! let mut tally = Tally::default();
 //! let copies = change.image.copies(7, 2, &mut tally)?;
@@ -34,5 +36,5 @@ mod image;
 mod raw;
 mod refusal;
 
-pub use image::{transcript, Change, Copies, Image, Move, Opened, Tally};
+pub use image::{transcript, Change, Copies, DeviceRow, Image, IntervalRow, Move, Numbers, Opened, Tally};
 pub use refusal::Refusal;

@@ -39,6 +39,20 @@ extern "C" {
         answer_size: usize,
     ) -> u32;
 
+    fn gorvyts_numbers(image: *const u8, image_size: usize, answer: *mut u64, answer_size: usize) -> u32;
+
+    fn gorvyts_share(
+        image: *const u8,
+        image_size: usize,
+        id: u64,
+        answer: *mut u64,
+        answer_size: usize,
+    ) -> u32;
+
+    fn gorvyts_devices(image: *const u8, image_size: usize, rows: *mut u64, rows_size: usize) -> u32;
+
+    fn gorvyts_intervals(image: *const u8, image_size: usize, rows: *mut u64, rows_size: usize) -> u32;
+
     fn gorvyts_add(
         image: *const u8,
         image_size: usize,
@@ -182,6 +196,33 @@ pub fn transcript(text: &[u8], out: &mut [u8], answer: &mut [u64]) -> u32 {
             answer.len(),
         )
     }
+}
+
+/// Writes the numbers of a pool: `answer[0]` is the range, `answer[1]` the interval limit, `answer[2]` the number
+/// of devices, `answer[3]` the number of intervals. Refusals: 14, 15, 16, 17.
+pub fn numbers(image: &[u8], answer: &mut [u64]) -> u32 {
+    // SAFETY: each pointer and count are those of one slice; the image is only read, the answer is exclusive.
+    unsafe { gorvyts_numbers(image.as_ptr(), image.len(), answer.as_mut_ptr(), answer.len()) }
+}
+
+/// Writes the share of a device to `answer[0]`. Refusals: 14, 15, 16, 2, 5, 17.
+pub fn share(image: &[u8], id: u64, answer: &mut [u64]) -> u32 {
+    // SAFETY: each pointer and count are those of one slice; the image is only read, the answer is exclusive.
+    unsafe { gorvyts_share(image.as_ptr(), image.len(), id, answer.as_mut_ptr(), answer.len()) }
+}
+
+/// Writes three numbers for each device, by rising id: id, capacity, share. Refusals: 14, 15, 16, 17; then the
+/// rows stay.
+pub fn devices(image: &[u8], rows: &mut [u64]) -> u32 {
+    // SAFETY: each pointer and count are those of one slice; the image is only read, the rows are exclusive.
+    unsafe { gorvyts_devices(image.as_ptr(), image.len(), rows.as_mut_ptr(), rows.len()) }
+}
+
+/// Writes three numbers for each interval, by rising start: start, length, owner. Refusals: 14, 15, 16, 17; then
+/// the rows stay.
+pub fn intervals(image: &[u8], rows: &mut [u64]) -> u32 {
+    // SAFETY: each pointer and count are those of one slice; the image is only read, the rows are exclusive.
+    unsafe { gorvyts_intervals(image.as_ptr(), image.len(), rows.as_mut_ptr(), rows.len()) }
 }
 
 /// Adds a device: the image of the changed pool goes to `next` and the moves, four numbers each (start,

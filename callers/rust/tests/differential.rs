@@ -14,7 +14,7 @@ use std::collections::BTreeMap;
 use std::env;
 use std::fmt::Debug;
 
-use gorvyts::calls;
+use gorvyts::{calls, DeviceRow, Image, IntervalRow};
 use inputs::pools::{alternating, composed, swept, Change, Plan};
 use inputs::{images, pools, texts, Random};
 use reference::calls as expected;
@@ -65,7 +65,7 @@ fn number(variable: &str) -> Option<u64> {
 
 /// What each call can return, and what can stand in a row and in a line of a transcript. A move list of 4,096
 /// places, as transcripts have it, is enough for all histories here, so that no line gets 9.
-const CAN_OCCUR: [(&str, &[u32]); 15] = [
+const CAN_OCCUR: [(&str, &[u32]); 19] = [
     ("check", &[0, 14, 15, 16]),
     ("fresh", &[0, 2, 17]),
     ("replay", &[0, 2, 17]),
@@ -81,6 +81,10 @@ const CAN_OCCUR: [(&str, &[u32]); 15] = [
     ("open", &[0, 14, 15, 16, 17]),
     ("owner_in", &[0, 10, 13, 17]),
     ("copies_in", &[0, 10, 11, 12, 17]),
+    ("numbers", &[0, 14, 15, 16, 17]),
+    ("share", &[0, 2, 5, 14, 15, 16, 17]),
+    ("devices", &[0, 14, 15, 16, 17]),
+    ("intervals", &[0, 14, 15, 16, 17]),
 ];
 
 /// A buffer with a pattern in it, of which the middle is lent.
@@ -203,6 +207,7 @@ impl Trial {
             }
             if random.one_in(20) {
                 self.lookups(random, &pool);
+                self.told_whole(random, &pool);
             }
             if random.one_in(8) {
                 let bytes = images::damaged(random, &pool);
@@ -229,6 +234,7 @@ impl Trial {
             }
             assert_eq!(self.check(&image::write(&pool)), 0);
             self.lookups(random, &pool);
+            self.told_whole(random, &pool);
             for _ in 0..12 {
                 let bytes = images::damaged(random, &pool);
                 self.check(&bytes);
@@ -341,6 +347,48 @@ impl Trial {
         self.any_opening(random, &bytes);
     }
 
+    /// What a pool is, by the calls and by the safe functions.
+    fn told_whole(&mut self, random: &mut Random, pool: &Pool) {
+        let bytes = image::write(pool);
+        for _ in 0..4 {
+            self.told_of(random, &bytes, pool);
+        }
+        let image = Image::check(bytes).unwrap();
+        let numbers = image.numbers();
+        assert_eq!((numbers.range, numbers.limit), (pool.range, pool.limit));
+        let (devices, intervals) = (image.devices(), image.intervals());
+        assert_eq!((numbers.devices, numbers.intervals), (devices.len() as u64, intervals.len() as u64));
+        let shares = pool.share_of_id();
+        let rows =
+            pool.devices.iter().map(|d| DeviceRow { id: d.id, capacity: d.capacity, share: shares[&d.id] });
+        assert!(rows.eq(devices.iter().copied()));
+        let table = pool.table.iter();
+        let rows = table.map(|i| IntervalRow { start: i.start, length: i.length, owner: i.owner });
+        assert!(rows.eq(intervals.iter().copied()));
+        for row in devices {
+            assert_eq!(image.share(row.id), Ok(row.share));
+        }
+    }
+
+    /// The calls that tell of a pool, with any bytes in the place of its image; the pool is that from which they
+    /// come.
+    fn told_of(&mut self, random: &mut Random, bytes: &[u8], pool: &Pool) {
+        let answer = answer_size(random, 4);
+        self.numbers(random, bytes, answer);
+        let id = match random.below(4) {
+            0 => random.pick(&[0, 1, 65_535, 65_536, (1 << 16) + 1, (1 << 32) + 1, u64::MAX]),
+            1 => random.between(1, 65_535),
+            _ if pool.devices.is_empty() => random.below(3),
+            _ => random.pick(&pool.devices).id,
+        };
+        let answer = answer_size(random, 1);
+        self.share(random, bytes, id, answer);
+        let rows = random.size_near(3 * pool.devices.len());
+        self.devices(random, bytes, rows);
+        let rows = random.size_near(3 * pool.table.len());
+        self.intervals(random, bytes, rows);
+    }
+
     fn one_block_in(&mut self, random: &mut Random, bytes: &[u8]) {
         let (block, k) = (block(random), copies_asked(random));
         let (tally, row) = (tally(random), random.size_near(10));
@@ -381,11 +429,12 @@ impl Trial {
     /// One of the calls on an image, with any bytes in its place; the pool is that from which they come.
     fn any_call(&mut self, random: &mut Random, bytes: &[u8], pool: &Pool) {
         let ids: Vec<u64> = pool.devices.iter().map(|device| device.id).collect();
-        match random.below(7) {
+        match random.below(8) {
             0 => {
                 self.check(bytes);
             }
             6 => self.any_opening(random, bytes),
+            7 => self.told_of(random, bytes, pool),
             1 => {
                 let (point, answer) = (random.below(pool.range), answer_size(random, 1));
                 self.owner(random, bytes, point, answer);
@@ -585,6 +634,45 @@ impl Trial {
         self.told("copies_of_many", number, apart, || {
             format!("blocks {blocks:?}, k {k}, tally {before:?}, image {}", hex(bytes))
         });
+    }
+}
+
+// What a pool is.
+impl Trial {
+    fn numbers(&mut self, random: &mut Random, bytes: &[u8], answer: usize) {
+        let lent = bytes.to_vec();
+        let mut answer = Lent::new(random, answer);
+        let mut answer2 = answer.clone();
+        let number = (calls::numbers(&lent, answer.lend()), expected::numbers(bytes, answer2.lend()));
+        let apart = [answer.apart("answer", &answer2), changed("image", &lent, bytes)];
+        self.told("numbers", number, apart, || format!("image {}", hex(bytes)));
+    }
+
+    fn share(&mut self, random: &mut Random, bytes: &[u8], id: u64, answer: usize) {
+        let lent = bytes.to_vec();
+        let mut answer = Lent::new(random, answer);
+        let mut answer2 = answer.clone();
+        let number = (calls::share(&lent, id, answer.lend()), expected::share(bytes, id, answer2.lend()));
+        let apart = [answer.apart("answer", &answer2), changed("image", &lent, bytes)];
+        self.told("share", number, apart, || format!("id {id}, image {}", hex(bytes)));
+    }
+
+    fn devices(&mut self, random: &mut Random, bytes: &[u8], rows: usize) {
+        let lent = bytes.to_vec();
+        let mut rows = Lent::new(random, rows);
+        let mut rows2 = rows.clone();
+        let number = (calls::devices(&lent, rows.lend()), expected::devices(bytes, rows2.lend()));
+        let apart = [rows.apart("rows", &rows2), changed("image", &lent, bytes)];
+        self.told("devices", number, apart, || format!("image {}", hex(bytes)));
+    }
+
+    fn intervals(&mut self, random: &mut Random, bytes: &[u8], rows: usize) {
+        let lent = bytes.to_vec();
+        let mut rows = Lent::new(random, rows);
+        let mut rows2 = rows.clone();
+        let number = (calls::intervals(&lent, rows.lend()), expected::intervals(bytes, rows2.lend()));
+        let apart = [rows.apart("rows", &rows2), changed("image", &lent, bytes)];
+        self.told("intervals", number, apart, || format!("image {}", hex(bytes)));
     }
 }
 

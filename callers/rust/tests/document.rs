@@ -3,7 +3,7 @@
 
 mod reference;
 
-use gorvyts::{Copies, Image, Move, Refusal, Tally};
+use gorvyts::{Copies, DeviceRow, Image, IntervalRow, Move, Numbers, Refusal, Tally};
 use reference::history;
 use reference::lookup::point_of_word;
 use reference::pool::{self, shares, Device, Pool};
@@ -118,6 +118,21 @@ fn safe_functions() -> Result<(), Refusal> {
     assert_eq!(pool.clone().into_bytes(), pool.as_ref());
     assert_eq!([8, 9, 66, 67, 99].map(|point| pool.owner(point)), [1, 3, 3, 1, 3].map(Ok));
     assert_eq!(pool.owner(100), Err(Refusal::PointPastRange));
+
+    assert_eq!(pool.numbers(), Numbers { range: 100, limit: 16, devices: 2, intervals: 4 });
+    assert_eq!([1, 3].map(|id| pool.share(id)), [25, 75].map(Ok));
+    assert_eq!(pool.share(2), Err(Refusal::IdAbsent));
+    assert_eq!([0, 65_536].map(|id| pool.share(id)), [Err(Refusal::OutsideLimits); 2]);
+    let devices = [(1, 1_000, 25), (3, 3_000, 75)];
+    assert_eq!(pool.devices(), devices.map(|(id, capacity, share)| DeviceRow { id, capacity, share }));
+    let intervals = [(0, 9, 1), (9, 58, 3), (67, 16, 1), (83, 17, 3)];
+    assert_eq!(
+        pool.intervals(),
+        intervals.map(|(start, length, owner)| IntervalRow { start, length, owner })
+    );
+    let empty = Image::fresh(7, 5)?;
+    assert_eq!(empty.numbers(), Numbers { range: 7, limit: 5, devices: 0, intervals: 0 });
+    assert_eq!((empty.devices(), empty.intervals()), (vec![], vec![]));
 
     let three = Image::fresh(100, 16)?.add(1, 1_000)?.image.add(2, 1_000)?.image.add(3, 1_000)?.image;
     let two = three.remove(2)?;

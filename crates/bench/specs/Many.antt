@@ -5,7 +5,7 @@ use mathlib.Core.List.{_++_}
 use Prim.Native.Nat.{ℕ, zero, suc, _%_}
 use lib.Bits.{bitXor}
 use lib.ListN.{getD}
-use Rattle.sha1.specs.Fips180.{bytes, digest}
+use Rattle.sha1_blocks.specs.Fips180.{bytes, digest}
 
 unfoldable pub many : ℕ → ℕ
 many zero = 0

@@ -1,5 +1,4 @@
 // Exports for the programs of bench/.
-mod changes;
 mod checksums;
 mod copies;
 mod digests;

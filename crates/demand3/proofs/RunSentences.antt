@@ -9,8 +9,8 @@ use mathlib.Core.Path.{_≡_, refl, sym, ap, _∙_, subst}
 use mathlib.Core.List.{List}
 use Prim.Native.Nat.{ℕ, zero, suc}
 use native.Mathlib.Omega.{arith}
-use Rattle.placement.specs.declared.Pool.{Pool}
-use Rattle.placement.specs.declared.PoolAnswer.{PoolAnswer}
+use Rattle.pools.specs.declared.Pool.{Pool}
+use Rattle.pools.specs.declared.PoolAnswer.{PoolAnswer}
 use Rattle.slicing.specs.Ledger.{Ledger}
 use Rattle.demand3.specs.CallLists.{callsOf, Kept, ledgerAfter}
 use Rattle.demand3.specs.Demand3.{Agreement, Demand3}

@@ -22,25 +22,26 @@ use Rattle.slicing.specs.Validity.{Valid}
 use Rattle.slicing.proofs.Changes.{outside-false, or-false}
 use Rattle.slicing.proofs.Claims.{valid-fresh}
 use Rattle.slicing_core.specs.Rows.{at}
-use Rattle.placement.specs.Pools.{poolOf}
-use Rattle.placement.specs.Promises.{movesIn, flat}
-use Rattle.placement.specs.declared.Pool.{Pool}
-use Rattle.placement.proofs.WrittenMoves.{length-flat}
-use Rattle.move_lists.specs.Promises as Lists
+use Rattle.pools.specs.Pools.{poolOf}
+use Rattle.image_changes.specs.FlatMoves.{movesIn, flat}
+use Rattle.pools.specs.declared.Pool.{Pool}
+use Rattle.image_changes.proofs.FlatLists.{length-flat}
+use Rattle.placement.specs.Promises as Lists
 use Rattle.images.specs.Format.{imageOf, rangeIn, limitIn, stateIn, Image}
 use Rattle.images.specs.Promises as Images
 use Rattle.images.specs.RowBytes.{poolIn}
 use Rattle.images.proofs.ImageLaws.{image-imageOf}
 use Rattle.images.proofs.PoolsRead.{poolOf-stateIn}
-use Rattle.gorvyts.specs.Promises.{OnImage, unmarked, versioned, faulty, accepted, Checked, Stored, unstored, FreshStored}
-use Rattle.gorvyts.specs.Promises.{Moved, unmoved, movedAs, Changed}
+use Rattle.images.specs.OnImages.{OnImage, unmarked, versioned, faulty, accepted}
+use Rattle.gorvyts.specs.Promises.{Checked, Stored, unstored, FreshStored}
+use Rattle.image_changes.specs.Promises.{Moved, unmoved, movedAs, Changed}
 use Rattle.demand3.specs.CallLists.{feedStep}
 use Rattle.demand3.specs.ImageLedger.{ledgerIn}
 use Rattle.demand3.specs.Openings as Calls
 use Rattle.demand3.proofs.Demand3.{Ready, ready, ready-step, claim-step}
 use Rattle.demand3.proofs.Inhabited as Starts
 use Rattle.demand3.proofs.Tables.{agreement-pool}
-use Rattle.move_lists.proofs.Drafts.{length-written}
+use Rattle.placement.proofs.Drafts.{length-written}
 use Rattle.demand3_exports.specs.Exports.{Exported, imageAfter, Kept, stepOf}
 use Rattle.demand3_exports.specs.ExportedDemand3.{Opening, fresh-image, checked-image, Claim, ExportedDemand3}
 use Rattle.demand3_exports.proofs.Steps.{number-change, poolIn-imageOf, changed-step, refused-answer, outcome-valid, accepted-answer}

@@ -21,7 +21,9 @@ use Rattle.slicing_core.specs.Rows.{at}
 use Rattle.images.specs.Format.{headSize, imageOf, rangeIn, limitIn, stateIn, Image}
 use Rattle.images.specs.RowBytes.{poolIn}
 use Rattle.images.proofs.ImageSizes.{length-imageOf}
-use Rattle.gorvyts.specs.Promises.{accepted, Stored, FreshStored, Moved, movedAs, Changed}
+use Rattle.images.specs.OnImages.{accepted}
+use Rattle.image_changes.specs.Promises.{Moved, movedAs, Changed}
+use Rattle.gorvyts.specs.Promises.{Stored, FreshStored}
 use Rattle.demand3.specs.CallLists.{feedStep}
 use Rattle.demand3.specs.ImageLedger.{ledgerIn}
 use Rattle.demand3.proofs.Demand3.{Ready, ready}

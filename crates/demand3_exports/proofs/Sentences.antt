@@ -29,15 +29,16 @@ use Rattle.slicing.specs.SixSteps.{points}
 use Rattle.slicing.specs.SixSteps as Six
 use Rattle.slicing_core.specs.Rows.{at}
 use Rattle.slicing_core.proofs.Rows.{length-deviceRows}
-use Rattle.placement.specs.Pools.{stateOf, poolOf}
-use Rattle.placement.specs.Promises.{movesIn}
-use Rattle.placement.proofs.PoolLaws.{stateOf-poolOf, length-tableRows}
-use Rattle.move_lists.specs.Promises.{moveOf, rowOf}
+use Rattle.pools.specs.Pools.{stateOf, poolOf}
+use Rattle.image_changes.specs.FlatMoves.{movesIn}
+use Rattle.pools.proofs.PoolLaws.{stateOf-poolOf, length-tableRows}
+use Rattle.placement.specs.Promises.{moveOf, rowOf}
 use Rattle.images.specs.Format.{imageOf, rangeIn, limitIn, devicesIn, intervalsIn, idsIn, capacitiesIn, startsIn, ownersIn, stateIn, Image}
 use Rattle.images.specs.RowBytes.{poolIn}
 use Rattle.images.proofs.ImageSizes.{length-imageOf}
 use Rattle.images.proofs.PoolsRead.{stateOf-poolIn}
-use Rattle.gorvyts.specs.Promises.{Checked, unmarked, versioned, faulty, accepted}
+use Rattle.images.specs.OnImages.{unmarked, versioned, faulty, accepted}
+use Rattle.gorvyts.specs.Promises.{Checked}
 use Rattle.demand3.specs.CallLists.{written, feedStep}
 use Rattle.demand3.specs.Demand3.{Agreement, Rival}
 use Rattle.demand3.specs.Points.{countOf, InMove, inMoves, moveAt, holds}

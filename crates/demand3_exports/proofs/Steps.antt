@@ -7,7 +7,7 @@
 --   refused-answer, accepted-answer       of a refused call and of an accepted one
 use mathlib.Core.Path.{_≡_, refl, sym, ap, ap₂, _∙_, subst}
 use mathlib.Core.Bool.{Bool, true, false, not, _||_}
-use mathlib.Core.List.{List, [], _∷_, _++_, map}
+use mathlib.Core.List.{List, [], _∷_, _++_, map, map-append}
 use Prim.Native.Nat.{ℕ, zero, suc, _*_, _≤_}
 use native.Mathlib.Omega.{arith}
 use lib.Dec.{leb, ltb}
@@ -22,12 +22,12 @@ use Rattle.slicing.specs.SixSteps as Six
 use Rattle.slicing.specs.SixSteps.{Turn, turns, newTable, moves}
 use Rattle.slicing.specs.Validity.{Valid}
 use Rattle.slicing.proofs.Changes.{valid-change, change-refused}
-use Rattle.placement.specs.Pools.{stateOf, poolOf}
-use Rattle.placement.specs.Promises.{movesIn, flat}
+use Rattle.pools.specs.Pools.{stateOf, poolOf}
+use Rattle.image_changes.specs.FlatMoves.{movesIn, flat}
 use Rattle.placement.specs.declared.ChangeAnswer.{ChangeAnswer}
-use Rattle.move_lists.specs.Promises.{moveOf, rowOf, Answered, Changed}
-use Rattle.move_lists.specs.declared.Move.{Move}
-use Rattle.move_lists.proofs.FlatRows.{movesIn-flat, map-append}
+use Rattle.placement.specs.Promises.{moveOf, rowOf, Answered, Changed}
+use Rattle.placement.specs.declared.Move.{Move}
+use Rattle.image_changes.proofs.FlatLists.{movesIn-flat}
 use Rattle.images.specs.Format.{imageOf, stateIn, Image}
 use Rattle.images.specs.RowBytes.{poolIn}
 use Rattle.images.proofs.ImageLaws.{stateIn-imageOf, image-imageOf}

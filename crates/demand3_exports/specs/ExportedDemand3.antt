@@ -10,7 +10,7 @@ use lib.ListN.{length, take, drop}
 use Rattle.slicing.specs.Changes.{change}
 use Rattle.slicing.specs.Ledger.{Ledger, blank}
 use Rattle.slicing_core.specs.Rows.{at}
-use Rattle.placement.specs.Promises.{movesIn}
+use Rattle.image_changes.specs.FlatMoves.{movesIn}
 use Rattle.images.specs.Format.{imageOf, rangeIn, limitIn, stateIn, Image}
 use Rattle.images.specs.RowBytes.{poolIn}
 use Rattle.gorvyts.specs.Promises.{Stored, FreshStored, Checked}

@@ -15,10 +15,10 @@ use lib.ListN.{take}
 use Rattle.slicing.specs.Changes.{Change}
 use Rattle.slicing.specs.Ledger.{Ledger}
 use Rattle.slicing_core.specs.Rows.{at}
-use Rattle.placement.specs.Promises.{movesIn}
+use Rattle.image_changes.specs.FlatMoves.{movesIn}
 use Rattle.images.specs.RowBytes.{poolIn}
-use Rattle.move_lists.specs.Promises.{rowOf}
-use Rattle.gorvyts.specs.Promises.{Moved, Changed}
+use Rattle.placement.specs.Promises.{rowOf}
+use Rattle.image_changes.specs.Promises.{Moved, Changed}
 use Rattle.demand3.specs.CallLists.{Step, feedStep}
 
 pub record Exported : Type 0 where

@@ -12,8 +12,8 @@ use mathlib.Core.List.{List, [], _∷_, _++_, map, append-assoc}
 use Prim.Native.Nat.{ℕ, zero, suc, _+_, _≤_}
 use native.Mathlib.Omega.{arith}
 use lib.ListN.{length, drop, replicate}
-use Rattle.placement.specs.Pools.{stateOf, poolOf}
-use Rattle.placement.proofs.PoolLaws.{stateOf-poolOf, validPool-poolOf}
+use Rattle.pools.specs.Pools.{stateOf, poolOf}
+use Rattle.pools.proofs.PoolLaws.{stateOf-poolOf, validPool-poolOf}
 use Rattle.slicing.specs.Changes.{State, fresh, Change, add, remove, resize, Outcome, change}
 use Rattle.slicing.specs.Claims as Rules
 use Rattle.slicing.specs.Ledger.{blank}
@@ -21,11 +21,11 @@ use Rattle.slicing.specs.Limits.{maxRange, maxLimit}
 use Rattle.slicing.specs.SixSteps.{move}
 use Rattle.slicing.specs.Validity.{Valid}
 use Rattle.slicing.proofs.Changes.{valid-change}
-use Rattle.move_lists.specs.Promises.{moveOf, rowOf, Answered, Changed}
+use Rattle.placement.specs.Promises.{moveOf, rowOf, Answered, Changed}
 use Rattle.history_lines.specs.declared.lines.LineAnswer.{LineAnswer}
 use Rattle.history_lines.specs.declared.lines.LineAnswer.the-variants.{Range, Add, Remove, Resize, Refused}
 use Rattle.history_lines.specs.Lines.{rangeOutside, lineIn}
-use Rattle.history_lines.specs.Text.{lineEnd, split}
+use Rattle.history_numbers.specs.Text.{lineEnd, split}
 use Rattle.history_lines.proofs.LineLimits.{line-fits, refused-fits, range-limits}
 use Rattle.history_printing.specs.Printing.{fields}
 use Rattle.history.specs.Histories.{lastOf, linesOf, readAll, printedLines, unfinished}

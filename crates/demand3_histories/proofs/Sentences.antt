@@ -20,10 +20,10 @@ use native.Mathlib.Omega.{arith}
 use lib.Dec.{eqb}
 use lib.ListN.{length, drop, length-replicate}
 use borrow.Author.Tests.{lt-ltb, le-ltb}
-use Rattle.placement.specs.Pools.{stateOf, poolOf, ValidPool}
-use Rattle.placement.specs.declared.Pool.{Pool}
-use Rattle.placement.specs.declared.PoolAnswer.{PoolAnswer}
-use Rattle.placement.proofs.PoolLaws.{validPool-poolOf}
+use Rattle.pools.specs.Pools.{stateOf, poolOf, ValidPool}
+use Rattle.pools.specs.declared.Pool.{Pool}
+use Rattle.pools.specs.declared.PoolAnswer.{PoolAnswer}
+use Rattle.pools.proofs.PoolLaws.{validPool-poolOf}
 use Rattle.slicing.specs.Changes.{fresh, Change, add, remove, resize}
 use Rattle.slicing.specs.Devices.{present}
 use Rattle.slicing.specs.Ledger.{Ledger, blank}
@@ -35,7 +35,7 @@ use Rattle.slicing_core.specs.Rows.{at, intervalRows}
 use Rattle.history_lines.specs.declared.lines.LineAnswer.{LineAnswer}
 use Rattle.history_lines.specs.declared.lines.LineAnswer.the-variants.{Range, Add, Remove, Resize, Refused}
 use Rattle.history_lines.specs.Lines.{lineIn}
-use Rattle.history_lines.specs.Text.{lineEnd, split}
+use Rattle.history_numbers.specs.Text.{lineEnd, split}
 use Rattle.history_lines.proofs.LineLimits.{range-limits}
 use Rattle.history_printing.specs.Printing.{fields, printedRows}
 use Rattle.history.specs.declared.transcripts.TranscriptAnswer.{TranscriptAnswer}
@@ -48,7 +48,7 @@ use Rattle.history.proofs.PrintedLines.{lineEnds-then, lineEnds-fields}
 use Rattle.history.proofs.PrintedTables.{heading, table-rows}
 use Rattle.history.proofs.ReplayLaws.{poolAfter-valid, transcript-replayed}
 use Rattle.demand3.specs.CallLists.{Step, Call, callsOf, Kept, feedStep, poolAfter, ledgerAfter}
-use Rattle.demand3.specs.Demand3.{Agreement, Demand3}
+use Rattle.demand3.specs.Demand3.{Agreement}
 use Rattle.demand3.specs.Openings.{Opening}
 use Rattle.demand3.specs.Points.{countOf, endOf, OneInterval, holds}
 use Rattle.demand3.proofs.Sentences.{agreement-end, Facts, facts-at, refused-stays, one-owner, exact-share, moved-count}

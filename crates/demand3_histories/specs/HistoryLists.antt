@@ -18,14 +18,14 @@ use mathlib.Core.Bool.{false}
 use mathlib.Core.List.{List, [], _∷_, _++_}
 use Prim.Native.Nat.{ℕ, suc, _≤_}
 use lib.ListN.{length, replicate}
-use Rattle.placement.specs.Pools.{stateOf, poolOf}
+use Rattle.pools.specs.Pools.{stateOf, poolOf}
 use Rattle.slicing.specs.Changes.{fresh, Change, add, remove, resize}
 use Rattle.slicing.specs.Ledger.{blank}
-use Rattle.move_lists.specs.declared.Move.{Move}
+use Rattle.placement.specs.declared.Move.{Move}
 use Rattle.history_lines.specs.declared.lines.LineAnswer.{LineAnswer}
 use Rattle.history_lines.specs.declared.lines.LineAnswer.the-variants.{Range, Add, Remove, Resize, Refused}
 use Rattle.history_lines.specs.Lines.{rangeOutside, lineIn}
-use Rattle.history_lines.specs.Text.{lineEnd, split}
+use Rattle.history_numbers.specs.Text.{lineEnd, split}
 use Rattle.history_printing.specs.Printing.{fields}
 use Rattle.history.specs.Histories.{lastOf, linesOf, unfinished}
 use Rattle.history.specs.Histories as Histories

@@ -1,9 +1,1 @@
-pub mod FirstPlaces
-pub mod OnImages
 pub mod StoredPools
-pub mod ToldOwners
-pub mod MovedLists
-pub mod CopiedRows
-pub mod CopiedCalls
-pub mod OpenedPools
-pub mod OpenedLookups

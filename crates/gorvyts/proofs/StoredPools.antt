@@ -16,13 +16,12 @@ use borrow.Author.Tests.{lt-ltb, le-ltb}
 use Rattle.slicing.specs.Changes.{State, fresh}
 use Rattle.slicing.specs.Limits.{maxRange, maxLimit, outside}
 use Rattle.slicing.specs.Validity.{Valid}
-use Rattle.placement.specs.Pools.{stateOf, poolOf, ValidPool}
-use Rattle.placement.specs.Promises.{Fresh}
-use Rattle.placement.specs.declared.Pool.{Pool}
-use Rattle.placement.specs.declared.PoolAnswer.{PoolAnswer}
-use Rattle.placement.proofs.PoolLaws.{stateOf-poolOf, validPool-poolOf}
+use Rattle.pools.specs.Pools.{stateOf, poolOf, ValidPool}
+use Rattle.pools.specs.Promises.{Fresh}
+use Rattle.pools.specs.declared.PoolAnswer.{PoolAnswer}
+use Rattle.pools.proofs.PoolLaws.{stateOf-poolOf, validPool-poolOf}
 use Rattle.images.specs.Format.{imageOf}
-use Rattle.images.specs.Promises.{WrittenAs}
+use Rattle.images.specs.Promises.{writeAnswer, bufferAfter}
 use Rattle.images.specs.declared.WriteAnswer.{WriteAnswer}
 use Rattle.images.specs.declared.WriteAnswer.the-variants as Write
 use Rattle.history.specs.Histories.{poolAfter}
@@ -58,16 +57,16 @@ module _ (i b b' a a' : List ℕ) (n : ℕ) where
   written-number true w e h = cc
   written-number false w e h = let z : _≡_ {A = ℕ} 0 1 = cc in absurd (omega (arith, z))
 
-module _ (p : Pool) (v : ValidPool p) (b b' a a' : List ℕ) (w : WriteAnswer) (n : ℕ) (h : WrittenAs p b w b') where
-  pub stored-whole : w ≡ Write.Written n → a' ≡ n ∷ drop 1 a → record { number = 0; image = b'; answer = a' } ≡ storedAs (stateOf p) b a
+module _ (s : State) (b b' a a' : List ℕ) (w : WriteAnswer) (n : ℕ) (h : w ≡ writeAnswer s (length b)) (f : b' ≡ bufferAfter s b) where
+  pub stored-whole : w ≡ Write.Written n → a' ≡ n ∷ drop 1 a → record { number = 0; image = b'; answer = a' } ≡ storedAs s b a
   stored-whole e k =
-      let i : List ℕ = imageOf (stateOf p) in
-      written-size i b b' a a' n (ltb (length b) (length i)) (sym (h .valid v .0) ∙ e) (h .valid v .1) k
+      let i : List ℕ = imageOf s in
+      written-size i b b' a a' n (ltb (length b) (length i)) (sym h ∙ e) f k
 
-  pub stored-none : w ≡ Write.Refused n → a' ≡ 0 ∷ drop 1 a → record { number = n; image = b'; answer = a' } ≡ storedAs (stateOf p) b a
+  pub stored-none : w ≡ Write.Refused n → a' ≡ 0 ∷ drop 1 a → record { number = n; image = b'; answer = a' } ≡ storedAs s b a
   stored-none e k =
-      let i : List ℕ = imageOf (stateOf p) in
-      written-number i b b' a a' n (ltb (length b) (length i)) (sym (h .valid v .0) ∙ e) (h .valid v .1) k
+      let i : List ℕ = imageOf s in
+      written-number i b b' a a' n (ltb (length b) (length i)) (sym h ∙ e) f k
 
 -- ---- a made pool
 

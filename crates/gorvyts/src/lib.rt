@@ -5,26 +5,25 @@
 // `answer`, zeros there on a refusal; where it has too few places the call is refused with 17 and
 // nothing is written. Beside the answer a refused call writes nothing. For many lookups of one pool its
 // image is opened: the pool's arrays then stand in memory of the caller's, and each lookup is given them.
-mod answers;
 mod changes;
-mod copying;
+mod looking;
 mod making;
-mod opening;
-mod owning;
+mod rows;
 
 pub use changes::gorvyts_add;
 pub use changes::gorvyts_remove;
 pub use changes::gorvyts_resize;
-pub use copying::gorvyts_copies;
-pub use copying::gorvyts_copies_of_many;
+pub use looking::gorvyts_copies;
+pub use looking::gorvyts_copies_in;
+pub use looking::gorvyts_copies_of_many;
+pub use looking::gorvyts_open;
+pub use looking::gorvyts_owner;
+pub use looking::gorvyts_owner_in;
 pub use making::gorvyts_check;
 pub use making::gorvyts_fresh;
 pub use making::gorvyts_replay;
 pub use making::gorvyts_transcript;
-pub use opening::gorvyts_copies_in;
-pub use opening::gorvyts_open;
-pub use opening::gorvyts_owner_in;
-pub use owning::gorvyts_owner;
-
-// The numbers of a row of copies: the refusal number or 0, eight owners, the probes.
-const ROW: usize = 10;
+pub use rows::gorvyts_devices;
+pub use rows::gorvyts_intervals;
+pub use rows::gorvyts_numbers;
+pub use rows::gorvyts_share;

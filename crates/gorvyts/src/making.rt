@@ -1,15 +1,16 @@
 // A pool from numbers, from a history or from an image.
-use crate::answers::put1;
+use answers::put1;
 use history::TranscriptAnswer;
 use images::WriteAnswer;
-use placement::Pool;
-use placement::PoolAnswer;
+use pools::Pool;
+use pools::PoolAnswer;
+use slicing::SHORT_BUFFER;
 ghost use mathlib.Core.Path.{_≡_};
 ghost use mathlib.Core.Bool.{cond};
 ghost use Prim.Native.Nat.{_≤_};
 ghost use lib.Dec.{ltb};
 ghost use lib.ListN.{length};
-ghost use Rattle.placement.specs.Pools.{stateOf, ValidPool};
+ghost use Rattle.pools.specs.Pools.{stateOf, ValidPool};
 ghost use Rattle.gorvyts.specs.Promises.{Checked, unstored, storedAs, FreshStored, ReplayStored, Transcript};
 
 // Whether the bytes are an image of a pool: 0, or 14 under 19 bytes or for another mark, 15 for another
@@ -27,7 +28,7 @@ fn store(pool: Pool, image: &mut [u8], answer: &mut [u64]) -> u32
     requires { ⌜ ValidPool pool × (1 ≤ length (now answer)) ⌝ }
     ensures { λ r. ⌜ record { number = r; image = now (image .exit); answer = now (answer .exit) } ≡ storedAs (stateOf pool) (now (image .entry)) (now (answer .entry)) ⌝ }
 {
-    match images::write(pool, &mut *image) {
+    match images::store(pool, &mut *image) {
         WriteAnswer::Written(size) => {
             put1(&mut *answer, size as u64);
             0
@@ -61,9 +62,9 @@ pub extern "C" fn gorvyts_fresh(range: u64, limit: u64, image: &mut [u8], answer
     ensures { λ r. ⌜ FreshStored range limit (now (image .entry)) (now (answer .entry)) (record { number = r; image = now (image .exit); answer = now (answer .exit) }) ⌝ }
 {
     if answer.len() < 1 {
-        return 17;
+        return SHORT_BUFFER;
     }
-    store_made(placement::fresh(range, limit), &mut *image, &mut *answer)
+    store_made(pools::fresh(range, limit), &mut *image, &mut *answer)
 }
 
 // The image of the pool that a history leaves, refused lines included; answer: its length. 2 for more than
@@ -73,7 +74,7 @@ pub extern "C" fn gorvyts_replay(text: &[u8], image: &mut [u8], answer: &mut [u6
     ensures { λ r. ⌜ ReplayStored (now (text .entry)) (now (image .entry)) (now (answer .entry)) (record { number = r; image = now (image .exit); answer = now (answer .exit) }) ⌝ }
 {
     if answer.len() < 1 {
-        return 17;
+        return SHORT_BUFFER;
     }
     store_made(history::pool_after(text), &mut *image, &mut *answer)
 }
@@ -84,7 +85,7 @@ pub extern "C" fn gorvyts_transcript(text: &[u8], out: &mut [u8], answer: &mut [
     ensures { λ r. ⌜ Transcript (now (text .entry)) (now (out .entry)) (now (answer .entry)) (record { number = r; image = now (out .exit); answer = now (answer .exit) }) ⌝ }
 {
     if answer.len() < 1 {
-        return 17;
+        return SHORT_BUFFER;
     }
     match history::transcript(text, &mut *out) {
         TranscriptAnswer::Printed(printed) => {

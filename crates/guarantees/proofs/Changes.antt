@@ -1,4 +1,4 @@
--- The outcomes of `move_lists::add`, `remove` and `resize`: the answer, the pool and the lent list, one theorem for each refusal and each result.
+-- The outcomes of `placement::add`, `remove` and `resize`: the answer, the pool and the lent list, one theorem for each refusal and each result.
 --
 --   Refuses n p lent r l      r answers n and zeros; the pool and the lent list are as they were
 --   Accepts p lent .. r l     r answers 0, the moved points, the number of moves, the new pool; the list has the moves and then what it had
@@ -19,11 +19,11 @@ use Rattle.slicing.specs.Devices.{Device, device, insert, delete, update}
 use Rattle.slicing.specs.Runs.{Run, _of_}
 use Rattle.slicing.specs.SixSteps as Rules
 use Rattle.slicing.specs.SixSteps.{newTable, moves, points}
-use Rattle.placement.specs.Pools.{stateOf, poolOf, ValidPool}
+use Rattle.pools.specs.Pools.{stateOf, poolOf, ValidPool}
 use Rattle.placement.specs.declared.ChangeAnswer.{ChangeAnswer}
-use Rattle.placement.specs.declared.Pool.{Pool}
-use Rattle.move_lists.specs.Promises.{moveOf, rowOf, Changed}
-use Rattle.move_lists.specs.declared.Move.{Move}
+use Rattle.pools.specs.declared.Pool.{Pool}
+use Rattle.placement.specs.Promises.{moveOf, rowOf, Changed}
+use Rattle.placement.specs.declared.Move.{Move}
 use Rattle.demand3.specs.Points.{Listed}
 use Rattle.guarantees.proofs.ChangeRules as Rule
 use Rattle.guarantees.proofs.ChangeRules.{turnsTo, Settles, Stops, Passes, stops, passes}

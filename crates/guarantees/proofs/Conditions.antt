@@ -18,8 +18,8 @@ use Rattle.slicing.specs.Replies.{Reply}
 use Rattle.slicing.proofs.Changes.{or-false, outside-false}
 use Rattle.slicing_core.proofs.DeviceRows.{position-present, present-without}
 use Rattle.slicing_core.proofs.Rows.{length-deviceRows}
-use Rattle.placement.specs.Pools.{stateOf}
-use Rattle.placement.specs.declared.Pool.{Pool}
+use Rattle.pools.specs.Pools.{stateOf}
+use Rattle.pools.specs.declared.Pool.{Pool}
 use Rattle.demand3.specs.Points.{Listed}
 
 abbrev pub Inside : ℕ → ℕ → Type 0

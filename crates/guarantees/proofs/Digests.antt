@@ -8,7 +8,7 @@ use Prim.Native.Nat.{ℕ, _≤_, _<_}
 use native.Mathlib.Omega.{arith}
 use lib.ListN.{length, getD}
 use borrow.Author.Tests.{lt-ltb, le-ltb}
-use Rattle.sha1.specs.Fips180.{bytes, digest}
+use Rattle.sha1_blocks.specs.Fips180.{bytes, digest}
 use Rattle.sha1.specs.Promises.{Digested}
 use Rattle.sha1.specs.declared.DigestAnswer.{DigestAnswer}
 

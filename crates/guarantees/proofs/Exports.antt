@@ -1,6 +1,8 @@
 -- The outcomes of the calls for C and Rust, crate `gorvyts`: the number and every buffer afterwards.
 --
 --   Unreadable xs n       the image xs is refused with n: 14, 15 or 16
+--   Tells n places r      the number n, and the places of the answer
+-- any call on an image: unread (14, 15, 16), read; an answer of one number: tells
 -- gorvyts_check: check-unreadable (14, 15, 16), check-image
 -- gorvyts_fresh: fresh-no-place (17), fresh-outside (2), fresh-short (17), fresh-stored
 -- gorvyts_replay: replay-no-place (17), replay-long (2), replay-short (17), replay-stored
@@ -30,8 +32,8 @@ use Rattle.slicing.specs.Devices.{Device}
 use Rattle.slicing.specs.Runs.{Run, ownerAt}
 use Rattle.slicing.specs.SixSteps.{Move, points}
 use Rattle.slicing_core.specs.Rows.{at}
-use Rattle.placement.specs.Pools.{startsOf, ownersOf}
-use Rattle.placement.specs.Promises.{movesIn, flat}
+use Rattle.pools.specs.Pools.{startsOf, ownersOf}
+use Rattle.image_changes.specs.FlatMoves.{movesIn, flat}
 use Rattle.lookup_core.specs.Halving.{ownerFound}
 use Rattle.lookup_core.specs.Probes.{pointOf, choose}
 use Rattle.lookup_core.proofs.Choosing.{firsts}
@@ -42,8 +44,12 @@ use Rattle.images.specs.Format.{imageOf, versionIn, stateIn, marked, Sound, Ima
 use Rattle.images.proofs.ImageSizes.{length-imageOf}
 use Rattle.history.specs.Histories.{poolAfter}
 use Rattle.history.specs.Replay.{replayed, transcript}
-use Rattle.gorvyts.specs.Promises.{OnImage, unmarked, versioned, faulty, accepted, Checked, Stored, FreshStored, ReplayStored, Transcript, Moved, Changed, Told, ownerTold, Owned, Copied, outcomeOf, copiedBy, CopiedOne, rowOf, countersIn, tallyOf, countedBy, rowsFor, countedFor, CopiedMany, Opened, OpenedFrom, OwnedIn, CopiedOneIn}
-use Rattle.gorvyts.proofs.OpenedLookups as Opened
+use Rattle.images.specs.OnImages.{OnImage, unmarked, versioned, faulty, accepted}
+use Rattle.answers.specs.Answers.{Answer}
+use Rattle.image_changes.specs.Promises.{Moved, Changed}
+use Rattle.image_lookups.specs.Promises.{ownerTold, Owned, CopiesLeft, outcomeOf, copiedBy, CopiedOne, rowOf, countersIn, tallyOf, countedBy, rowsFor, countedFor, CopiedMany, OpenedMemory, OpenedFrom, OwnedIn, CopiedOneIn}
+use Rattle.gorvyts.specs.Promises.{Checked, Stored, FreshStored, ReplayStored, Transcript}
+use Rattle.image_lookups.proofs.OpenedLookups as Opened
 use Rattle.guarantees.proofs.ChangeRules.{Stops, add-two, remove-two, resize-two, add-four, remove-five, resize-five, remove-seven, add-six, eight, nine, Passes, stops, passes}
 use Rattle.guarantees.proofs.Conditions.{Inside, two-inside, two-outside}
 use Rattle.guarantees.proofs.CopyRules.{NoCopies, eleven, ten, twelve, HasCopies, no-copies, has-copies, no-copies-number, length-owners}
@@ -78,13 +84,13 @@ module _ {A : Type 0} {xs : List ℕ} {f : ℕ → A} {g : State → A} {r : A} 
   sixteen (faulty h w s e) m v n = e
   sixteen (accepted i e) m v n = absurd (n (i .sound))
 
-  unread : {n : ℕ} → OnImage xs f g r → Unreadable xs n → r ≡ f n
+  pub unread : {n : ℕ} → OnImage xs f g r → Unreadable xs n → r ≡ f n
   unread k (few-bytes h) = fourteen k (marked-short xs h)
   unread k (other-mark l h) = fourteen k (marked-other xs l h)
   unread k (other-version l m h) = fifteen k (marked-mark xs l m) h
   unread k (other-fault l m v h) = sixteen k (marked-mark xs l m) v h
 
-  read : OnImage xs f g r → Image xs → r ≡ g (stateIn xs)
+  pub read : OnImage xs f g r → Image xs → r ≡ g (stateIn xs)
   read (unmarked h e) i = absurd (true≢false (sym (i .first) ∙ h))
   read (versioned h w e) i = absurd (w (i .second))
   read (faulty h w n e) i = absurd (n (i .sound))
@@ -219,14 +225,14 @@ module _ (xs : List ℕ) (c : Change) (b l a : List ℕ) (r : Moved) (k : Change
 
 -- ---- gorvyts_owner: a the places of the answer
 
-abbrev pub Tells : ℕ → List ℕ → Told → Type 0
-Tells n answer r = (r .number ≡ n) × (r .answer ≡ answer)
+abbrev pub Tells : ℕ → List ℕ → Answer → Type 0
+Tells n places r = (r .number ≡ n) × (r .places ≡ places)
 
-tells : {n : ℕ} {answer : List ℕ} {r : Told} → r ≡ record { number = n; answer = answer } → Tells n answer r
-tells e = (ap (λ s. s .number) e, ap (λ s. s .answer) e)
+pub tells : {n : ℕ} {places : List ℕ} {r : Answer} → r ≡ record { number = n; places = places } → Tells n places r
+tells e = (ap (λ s. s .number) e, ap (λ s. s .places) e)
 
 -- range R, n devices, and d the owner of the point x if there is one
-module _ (R n x d : ℕ) (a : List ℕ) (r : Told) (e : r ≡ ownerTold a (ownerAnswer R n x d)) where
+module _ (R n x d : ℕ) (a : List ℕ) (r : Answer) (e : r ≡ ownerTold a (ownerAnswer R n x d)) where
   tells-outside : R ≤ x → Tells 13 (0 ∷ drop 1 a) r
   tells-outside h = tells (e ∙ rw (le-leb R x h))
 
@@ -236,7 +242,7 @@ module _ (R n x d : ℕ) (a : List ℕ) (r : Told) (e : r ≡ ownerTold a (owner
   tells-owner : x < R → 1 ≤ n → Tells 0 (d ∷ drop 1 a) r
   tells-owner m h = tells (e ∙ rw (lt-leb R x m, ne-eqb n 0 (λ z. omega (arith, z, h))))
 
-module _ (xs : List ℕ) (x : ℕ) (a : List ℕ) (r : Told) (k : Owned xs x a r) where
+module _ (xs : List ℕ) (x : ℕ) (a : List ℕ) (r : Answer) (k : Owned xs x a r) where
   pub owner-no-place : length a < 1 → Tells 17 a r
   owner-no-place h = tells (k .short h)
 
@@ -260,10 +266,10 @@ module _ (xs : List ℕ) (x : ℕ) (a : List ℕ) (r : Told) (k : Owned xs x a r
 
 -- ---- copies: t the tally, w the rows of the answer
 
-abbrev pub Copies : ℕ → List ℕ → List ℕ → Copied → Type 0
+abbrev pub Copies : ℕ → List ℕ → List ℕ → CopiesLeft → Type 0
 Copies n tally rows r = (r .number ≡ n) × (r .tally ≡ tally) × (r .rows ≡ rows)
 
-copies-as : {n : ℕ} {tally rows : List ℕ} {r : Copied} → r ≡ record { number = n; tally = tally; rows = rows } → Copies n tally rows r
+copies-as : {n : ℕ} {tally rows : List ℕ} {r : CopiesLeft} → r ≡ record { number = n; tally = tally; rows = rows } → Copies n tally rows r
 copies-as e = (ap (λ s. s .number) e, ap (λ s. s .tally) e, ap (λ s. s .rows) e)
 
 -- who owns the point of each probe
@@ -287,14 +293,14 @@ tally-same (x ∷ []) h = absurd (omega (arith, h))
 tally-same (x ∷ y ∷ t) h = refl
 
 -- n devices, and o t the owner of probe t
-module _ (o : ℕ → ℕ) (n k : ℕ) (t w : List ℕ) (r : Copied) (e : r ≡ copiedBy t w (copiesOf o n k)) where
+module _ (o : ℕ → ℕ) (n k : ℕ) (t w : List ℕ) (r : CopiesLeft) (e : r ≡ copiedBy t w (copiesOf o n k)) where
   copies-refused : 2 ≤ length t → {x p : ℕ} → NoCopies o n k x p → Copies x t (refusedRow x p ++ drop 10 w) r
   copies-refused l {x} {p} h = copies-as (e ∙ rw (no-copies o n k h, ne-eqb x 0 (no-copies-number h), tally-same t l))
 
   copies-chosen : HasCopies o n k → Copies 0 (countedTally t (choose o k .probes)) (foundRow o k ++ drop 10 w) r
   copies-chosen h = copies-as (e ∙ rw (has-copies o n k h))
 
-module _ (xs : List ℕ) (block k : ℕ) (t w : List ℕ) (r : Copied) (c : CopiedOne xs block k t w r) where
+module _ (xs : List ℕ) (block k : ℕ) (t w : List ℕ) (r : CopiesLeft) (c : CopiedOne xs block k t w r) where
   pub copies-no-tally : length t < 2 → Copies 17 t w r
   copies-no-tally h = copies-as (c .noTally h)
 
@@ -328,7 +334,7 @@ module _ (xs : List ℕ) (block k : ℕ) (t w : List ℕ) (r : Copied) (c : Copi
 
 -- ---- many blocks
 
-module _ (xs bs : List ℕ) (k : ℕ) (t w : List ℕ) (r : Copied) (c : CopiedMany xs bs k t w r) where
+module _ (xs bs : List ℕ) (k : ℕ) (t w : List ℕ) (r : CopiesLeft) (c : CopiedMany xs bs k t w r) where
   pub many-no-tally : length t < 2 → Copies 17 t w r
   many-no-tally h = copies-as (c .noTally h)
 
@@ -382,14 +388,14 @@ many-row s k (b ∷ bs) (suc j) l =
 
 -- ---- gorvyts_open: s the starts, o the owners, m the numbers
 
-abbrev pub Opens : ℕ → List ℕ → List ℕ → List ℕ → Opened → Type 0
+abbrev pub Opens : ℕ → List ℕ → List ℕ → List ℕ → OpenedMemory → Type 0
 Opens n starts owners numbers r = (r .number ≡ n) × (r .starts ≡ starts) × (r .owners ≡ owners) × (r .numbers ≡ numbers)
 
-opens : {n : ℕ} {starts owners numbers : List ℕ} {r : Opened} → r ≡ record { number = n; starts = starts; owners = owners; numbers = numbers }
+opens : {n : ℕ} {starts owners numbers : List ℕ} {r : OpenedMemory} → r ≡ record { number = n; starts = starts; owners = owners; numbers = numbers }
     → Opens n starts owners numbers r
 opens e = (ap (λ q. q .number) e, ap (λ q. q .starts) e, ap (λ q. q .owners) e, ap (λ q. q .numbers) e)
 
-module _ (xs s o m : List ℕ) (r : Opened) (k : OpenedFrom xs s o m r) where
+module _ (xs s o m : List ℕ) (r : OpenedMemory) (k : OpenedFrom xs s o m r) where
   -- too few places: everything as lent
   pub open-no-starts : length s < 4096 → Opens 17 s o m r
   open-no-starts h = opens (k .noStarts h)
@@ -415,7 +421,7 @@ module _ (xs s o m : List ℕ) (r : Opened) (k : OpenedFrom xs s o m r) where
 
 -- ---- gorvyts_owner_in: arrays s and o and numbers m of any contents
 
-module _ (s o m : List ℕ) (x : ℕ) (a : List ℕ) (r : Told) (k : OwnedIn s o m x a r) where
+module _ (s o m : List ℕ) (x : ℕ) (a : List ℕ) (r : Answer) (k : OwnedIn s o m x a r) where
   pub owner-in-no-place : length a < 1 → Tells 17 a r
   owner-in-no-place h = tells (k .short h)
 
@@ -435,7 +441,7 @@ module _ (s o m : List ℕ) (x : ℕ) (a : List ℕ) (r : Told) (k : OwnedIn s o
 
 -- ---- gorvyts_copies_in: arrays s and o and numbers m of any contents
 
-module _ (s o m : List ℕ) (block k : ℕ) (t w : List ℕ) (r : Copied) (c : CopiedOneIn s o m block k t w r) where
+module _ (s o m : List ℕ) (block k : ℕ) (t w : List ℕ) (r : CopiesLeft) (c : CopiedOneIn s o m block k t w r) where
   abbrev probed : ℕ → ℕ
   probed = halvedIn s o (at m 1) (at m 0) block
 
@@ -464,14 +470,14 @@ module _ (s o m : List ℕ) (block k : ℕ) (t w : List ℕ) (r : Copied) (c : C
 
 -- ---- after an accepted opening
 
-one-told : {xs : List ℕ} {x : ℕ} {a : List ℕ} {q q' : Told} → Image xs → Owned xs x a q → Owned xs x a q' → q ≡ q'
+one-told : {xs : List ℕ} {x : ℕ} {a : List ℕ} {q q' : Answer} → Image xs → Owned xs x a q → Owned xs x a q' → q ≡ q'
 one-told {xs} {x} {a} {q} {q'} i h h' = go (ltb (length a) 1) refl
   where
     go : (b : Bool) → ltb (length a) 1 ≡ b → q ≡ q'
     go true e = let l = ltb-true (length a) 1 e in h .short l ∙ sym (h' .short l)
     go false e = let l = ltb-false (length a) 1 e in read (h .room l) i ∙ sym (read (h' .room l) i)
 
-one-copied : {xs : List ℕ} {block k : ℕ} {t w : List ℕ} {q q' : Copied} → Image xs → CopiedOne xs block k t w q → CopiedOne xs block k t w q' → q ≡ q'
+one-copied : {xs : List ℕ} {block k : ℕ} {t w : List ℕ} {q q' : CopiesLeft} → Image xs → CopiedOne xs block k t w q → CopiedOne xs block k t w q' → q ≡ q'
 one-copied {xs} {block} {k} {t} {w} {q} {q'} i h h' = go (ltb (length t) 2) (ltb (length w) 10) refl refl
   where
     go : (b c : Bool) → ltb (length t) 2 ≡ b → ltb (length w) 10 ≡ c → q ≡ q'
@@ -483,14 +489,14 @@ one-copied {xs} {block} {k} {t} {w} {q} {q'} i h h' = go (ltb (length t) 2) (ltb
         read (h .room l j) i ∙ sym (read (h' .room l j) i)
 
 -- a lookup sees the first 4,096 places of the arrays and the three numbers; q' is what the call on the image leaves
-module _ (xs s o m : List ℕ) (r : Opened) (h : OpenedFrom xs s o m r) (z : r .number ≡ 0) where
+module _ (xs s o m : List ℕ) (r : OpenedMemory) (h : OpenedFrom xs s o m r) (z : r .number ≡ 0) where
   pub opened-image : Image xs
   opened-image = Opened.opened-image xs s o m r h z
 
-  pub opened-owner : (x : ℕ) (a : List ℕ) (q q' : Told)
+  pub opened-owner : (x : ℕ) (a : List ℕ) (q q' : Answer)
       → OwnedIn (take 4096 (r .starts)) (take 4096 (r .owners)) (take 3 (r .numbers)) x a q → Owned xs x a q' → q ≡ q'
   opened-owner x a q q' k = one-told opened-image (Opened.opened-owned xs s o m r h z x a q k)
 
-  pub opened-copies : (block k : ℕ) (t w : List ℕ) (q q' : Copied)
+  pub opened-copies : (block k : ℕ) (t w : List ℕ) (q q' : CopiesLeft)
       → CopiedOneIn (take 4096 (r .starts)) (take 4096 (r .owners)) (take 3 (r .numbers)) block k t w q → CopiedOne xs block k t w q' → q ≡ q'
   opened-copies block k t w q q' c = one-copied opened-image (Opened.opened-copied xs s o m r h z block k t w q c)

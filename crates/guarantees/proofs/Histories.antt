@@ -19,17 +19,18 @@ use Rattle.slicing.specs.Changes.{fresh, Change, add, remove, resize, change}
 use Rattle.slicing.specs.Devices.{Device}
 use Rattle.slicing.specs.Runs.{Run}
 use Rattle.slicing.specs.SixSteps.{Move, points}
-use Rattle.placement.specs.Pools.{stateOf, poolOf, ValidPool}
-use Rattle.placement.specs.declared.PoolAnswer.{PoolAnswer}
-use Rattle.history_lines.specs.Lines.{capacityReply, CapacityRead, lineReply, lineIn, LineRead}
-use Rattle.history_lines.specs.Text.{capacityIn}
+use Rattle.pools.specs.Pools.{stateOf, poolOf, ValidPool}
+use Rattle.pools.specs.declared.PoolAnswer.{PoolAnswer}
+use Rattle.history_numbers.specs.Capacities.{capacityReply, CapacityRead}
+use Rattle.history_lines.specs.Lines.{lineReply, lineIn, LineRead}
+use Rattle.history_numbers.specs.Text.{capacityIn}
 use Rattle.history_lines.specs.declared.lines.LineAnswer.{LineAnswer}
 use Rattle.history_lines.specs.declared.lines.LineAnswer.the-variants.{Range, Add, Remove, Resize, Refused}
-use Rattle.history_lines.specs.declared.numbers.CapacityAnswer.{CapacityAnswer}
-use Rattle.history_lines.specs.declared.numbers.CapacityAnswer.the-variants as Capacity
-use Rattle.history_lines.specs.declared.numbers.Parsed.the-variants as Word
+use Rattle.history_numbers.specs.declared.numbers.CapacityAnswer.{CapacityAnswer}
+use Rattle.history_numbers.specs.declared.numbers.CapacityAnswer.the-variants as Capacity
+use Rattle.history_numbers.specs.declared.numbers.Parsed.the-variants as Word
 use Rattle.history.specs.Histories.{poolAfter}
-use Rattle.history.specs.Promises.{transcriptReply, settledLine, refused, appliedLine, Applied, Transcribed, Left}
+use Rattle.history.specs.Promises.{transcriptReply, resultLine, refused, appliedLine, Applied, Transcribed, Left}
 use Rattle.history.specs.Replay.{places, replayed, transcript}
 use Rattle.history.specs.declared.applying.History.{History}
 use Rattle.history.specs.declared.applying.LineResult.{LineResult}
@@ -39,7 +40,7 @@ use Rattle.guarantees.proofs.ChangeRules.{Stops, Passes, stops, passes}
 use Rattle.guarantees.proofs.Changes.{withTable}
 use Rattle.guarantees.proofs.Conditions.{Inside, inside-false, inside-true, Decided, within, without, Says, says}
 use Rattle.guarantees.proofs.LineRules.{Shapes, range-line, add-line, remove-line, resize-line, Far, Shapeless, shaped, far-two, shapeless-one}
-use Rattle.guarantees.proofs.Pools.{Bare}
+use Rattle.guarantees.proofs.Pools.{WithoutDevices}
 
 -- ---- capacities
 
@@ -137,7 +138,7 @@ module _ (h : History) (xs : List ℕ) (r : LineResult) (k : Applied h xs r) whe
     apply-late b R M e = unchanged 3 h r (same-line v _ (λ f. rw (e, b)))
 
     pub apply-range : h .begun ≡ false → (R M : ℕ) → lineIn xs ≡ Range R M
-        → (r .refusal ≡ 0) × (r .moved ≡ 0) × (r .count ≡ 0) × (r .history .begun ≡ true) × Bare R M (r .history .pool)
+        → (r .refusal ≡ 0) × (r .moved ≡ 0) × (r .count ≡ 0) × (r .history .begun ≡ true) × WithoutDevices R M (r .history .pool)
     unfolding poolOf
     apply-range b R M e =
         let g : LineResult = record { refusal = 0; moved = 0; count = 0; history = record { begun = true; pool = poolOf (fresh R M) } } in
@@ -150,12 +151,12 @@ module _ (h : History) (xs : List ℕ) (r : LineResult) (k : Applied h xs r) whe
     apply-invalid v = unchanged 2 h r (k .invalid v ∙ asked-late h _ b a)
 
     module _ (v : ValidPool (h .pool)) where
-      done : r ≡ settledLine (change (stateOf (h .pool)) places c)
+      done : r ≡ resultLine (change (stateOf (h .pool)) places c)
       done = k .valid v ∙ asked-late h _ b a
 
       pub apply-stops : (n : ℕ) → Stops (stateOf (h .pool)) places c n → Unchanged n h r
       apply-stops n s =
-          let e = done ∙ ap settledLine (stops (stateOf (h .pool)) places s) in (
+          let e = done ∙ ap resultLine (stops (stateOf (h .pool)) places s) in (
             ap (λ u. u .refusal) e,
             ap (λ u. u .moved) e,
             ap (λ u. u .count) e,
@@ -168,7 +169,7 @@ module _ (h : History) (xs : List ℕ) (r : LineResult) (k : Applied h xs r) whe
           × (r .history .pool ≡ withTable (h .pool) es table)
       unfolding stateOf
       apply-passes es table ms s =
-          let e = done ∙ ap settledLine (passes (stateOf (h .pool)) places s) in
+          let e = done ∙ ap resultLine (passes (stateOf (h .pool)) places s) in
           (ap (λ u. u .refusal) e, ap (λ u. u .moved) e, ap (λ u. u .count) e, ap (λ u. u .history .begun) e, ap (λ u. u .history .pool) e)
 
 -- ---- whole texts
@@ -203,7 +204,7 @@ module _ (xs before : List ℕ) (r : TranscriptAnswer) (after : List ℕ) (k : T
 
 module _ (xs : List ℕ) (r : PoolAnswer) (k : Left xs r) where
   -- more than 65,536 bytes: a fresh pool with R = 1 and M = 1
-  pub left-long : 65536 < length xs → (r .refusal ≡ 2) × Bare 1 1 (r .pool)
+  pub left-long : 65536 < length xs → (r .refusal ≡ 2) × WithoutDevices 1 1 (r .pool)
   unfolding poolOf
   left-long h = let e = rw (lt-ltb 65536 (length xs) h) at k in (ap (λ a. a .refusal) e, ap (λ a. a .pool) e)
 

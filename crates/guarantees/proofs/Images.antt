@@ -8,15 +8,15 @@ use mathlib.Core.List.{List, _++_}
 use Prim.Native.Nat.{ℕ, _≤_, _<_}
 use lib.ListN.{length, drop}
 use borrow.Author.Tests.{lt-ltb, le-ltb, le-leb, lt-leb, eq-eqb, ne-eqb}
-use Rattle.placement.specs.Pools.{stateOf, poolOf, ValidPool}
-use Rattle.placement.specs.declared.Pool.{Pool}
-use Rattle.placement.specs.declared.PoolAnswer.{PoolAnswer}
+use Rattle.pools.specs.Pools.{stateOf, poolOf, ValidPool}
+use Rattle.pools.specs.declared.Pool.{Pool}
+use Rattle.pools.specs.declared.PoolAnswer.{PoolAnswer}
 use Rattle.images.specs.Format.{imageOf, numberAt, versionIn, stateIn, marked, Sound}
 use Rattle.images.specs.Promises.{refusal, ReadAs, unmarked, versioned, faulty, accepted, writeReply, WrittenAs}
 use Rattle.images.specs.declared.WriteAnswer.{WriteAnswer}
 use Rattle.images.specs.declared.WriteAnswer.the-variants.{Written, Refused}
 use Rattle.guarantees.proofs.Conditions.{Says, says}
-use Rattle.guarantees.proofs.Pools.{Bare}
+use Rattle.guarantees.proofs.Pools.{WithoutDevices}
 
 -- the first three bytes are RSL, 52 53 4C hexadecimal
 abbrev pub Mark : List ℕ → Type 0
@@ -33,7 +33,7 @@ marked-mark xs l h = rw (le-leb 19 (length xs) l, eq-eqb (numberAt xs 0 3) 0x525
 
 -- a number, and a fresh pool with R = 1 and M = 1
 abbrev pub Unread : ℕ → PoolAnswer → Type 0
-Unread n r = (r .refusal ≡ n) × Bare 1 1 (r .pool)
+Unread n r = (r .refusal ≡ n) × WithoutDevices 1 1 (r .pool)
 
 unread : (n : ℕ) (r : PoolAnswer) → r ≡ refusal n → Unread n r
 unfolding poolOf

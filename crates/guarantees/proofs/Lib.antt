@@ -5,10 +5,10 @@ pub mod LineRules
 pub mod Digests
 pub mod Pools
 pub mod Changes
-pub mod FlatChanges
 pub mod Lookups
 pub mod Images
 pub mod Histories
 pub mod Exports
+pub mod ExportedRows
 pub mod Rules
 pub mod MarkedExamples

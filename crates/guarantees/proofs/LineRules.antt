@@ -12,11 +12,11 @@ use Prim.Native.Nat.{ℕ}
 use lib.Dec.{eqb}
 use borrow.Author.Tests.{eqb-true, eq-eqb}
 use Rattle.history_lines.specs.Lines.{same, lineIn}
-use Rattle.history_lines.specs.Text.{split, numberIn, capacityIn}
+use Rattle.history_numbers.specs.Text.{split, numberIn, capacityIn}
 use Rattle.history_lines.specs.declared.lines.LineAnswer.{LineAnswer}
 use Rattle.history_lines.specs.declared.lines.LineAnswer.the-variants.{Range, Add, Remove, Resize, Refused}
-use Rattle.history_lines.specs.declared.numbers.Parsed.{Parsed}
-use Rattle.history_lines.specs.declared.numbers.Parsed.the-variants as Word
+use Rattle.history_numbers.specs.declared.numbers.Parsed.{Parsed}
+use Rattle.history_numbers.specs.declared.numbers.Parsed.the-variants as Word
 use Rattle.guarantees.proofs.Conditions.{Inside, inside-false, inside-true, two-inside, two-outside, Decided, within, without, one-decided, two-decided}
 
 -- the four first words

@@ -21,11 +21,11 @@ use borrow.Author.Tests.{lt-ltb, le-ltb, le-leb, lt-leb, eq-eqb, ne-eqb}
 use Rattle.slicing.specs.Runs.{ownerAt}
 use Rattle.slicing.proofs.Intervals.{intervals-owner}
 use Rattle.slicing_core.specs.Rows.{at}
-use Rattle.placement.specs.Pools.{stateOf, ValidPool}
-use Rattle.placement.specs.declared.Pool.{Pool}
+use Rattle.pools.specs.Pools.{stateOf, ValidPool}
+use Rattle.pools.specs.declared.Pool.{Pool}
 use Rattle.lookup_core.specs.Halving.{ownerFound}
 use Rattle.lookup_core.specs.Probes.{pointOf, choose}
-use Rattle.lookup_core.specs.Walks.{ownerOf}
+use Rattle.lookup_core.specs.Probing.{ownerOf}
 use Rattle.lookup_core.proofs.Choosing.{firsts}
 use Rattle.lookups.specs.Copies.{Outcome, copiesOf}
 use Rattle.lookups.specs.Promises.{pointReply, ownerReply, Located, LookedIn, Looked, Answered, CopiedIn, Copied}

@@ -1,4 +1,4 @@
--- The examples of document 01, 'Marked for proof', on what the calls answer: K1 to K4 of `history::capacity`, K5 of `placement::share`, K12 of
+-- The examples of document 01, 'Marked for proof', on what the calls answer: K1 to K4 of `history::capacity`, K5 of `pools::share`, K12 of
 -- `lookups::point`. K6 to K11 are those of the rules, whose outcomes the changes answer (Changes.antt).
 -- Document 01's example of a history, of `history::transcript`: example-printed, empty-printed, unfinished-printed.
 use mathlib.Core.Path.{_≡_, ap, _∙_}
@@ -7,7 +7,7 @@ use Prim.Native.Nat.{ℕ, _≤_}
 use native.Mathlib.Omega.{arith}
 use lib.ListN.{length, getD, drop}
 use borrow.Author.Tests.{le-ltb}
-use Rattle.sha1.specs.Fips180.{bytes, digest}
+use Rattle.sha1_blocks.specs.Fips180.{bytes, digest}
 use Rattle.slicing.specs.Changes.{State, fresh, Change, add, remove, resize, Outcome, change}
 use Rattle.slicing.specs.Claims.{written}
 use Rattle.slicing.specs.Devices.{Device, device}
@@ -15,18 +15,18 @@ use Rattle.slicing.specs.Runs.{_of_}
 use Rattle.slicing.specs.ShareRule.{shares}
 use Rattle.slicing.specs.SixSteps.{move}
 use Rattle.slicing.proofs.Cases.{places}
-use Rattle.placement.specs.Pools.{stateOf, ValidPool}
-use Rattle.placement.specs.Promises.{Shared}
-use Rattle.placement.specs.declared.Pool.{Pool}
-use Rattle.placement.specs.declared.ShareAnswer.{ShareAnswer}
-use Rattle.placement.specs.declared.ShareAnswer.the-variants.{Share}
+use Rattle.pools.specs.Pools.{stateOf, ValidPool}
+use Rattle.pools.specs.Promises.{Shared}
+use Rattle.pools.specs.declared.Pool.{Pool}
+use Rattle.pools.specs.declared.ShareAnswer.{ShareAnswer}
+use Rattle.pools.specs.declared.ShareAnswer.the-variants.{Share}
 use Rattle.lookup_core.specs.Probes.{pointOf, scaled}
 use Rattle.lookups.specs.Promises.{Located}
 use Rattle.lookups.specs.declared.PointAnswer.{PointAnswer}
 use Rattle.lookups.specs.declared.PointAnswer.the-variants.{Point}
-use Rattle.history_lines.specs.Lines.{CapacityRead}
-use Rattle.history_lines.specs.declared.numbers.CapacityAnswer.{CapacityAnswer}
-use Rattle.history_lines.specs.declared.numbers.CapacityAnswer.the-variants.{Thousandths, Refused}
+use Rattle.history_numbers.specs.Capacities.{CapacityRead}
+use Rattle.history_numbers.specs.declared.numbers.CapacityAnswer.{CapacityAnswer}
+use Rattle.history_numbers.specs.declared.numbers.CapacityAnswer.the-variants.{Thousandths, Refused}
 use Rattle.history.specs.Promises.{Transcribed}
 use Rattle.history.specs.declared.transcripts.TranscriptAnswer.{TranscriptAnswer}
 use Rattle.history.specs.declared.transcripts.TranscriptAnswer.the-variants.{Printed}

@@ -1,6 +1,6 @@
--- The outcomes of `placement::fresh`, `valid::valid` and `share`.
+-- The outcomes of `pools::fresh`, `valid` and `share`.
 --
---   Bare R M p     p has the range R and the limit M, and nothing else
+--   WithoutDevices R M p     p has the range R and the limit M, and nothing else
 -- fresh: fresh-outside (2), fresh-inside
 -- valid: valid-yes, valid-no; valid-decided
 -- share: share-invalid (2), share-outside (2), share-absent (5), share-present
@@ -10,18 +10,18 @@ use Prim.Native.Nat.{ℕ}
 use lib.ListN.{replicate}
 use Rattle.slicing.specs.ShareRule.{shareOf}
 use Rattle.slicing_core.specs.Stages.{Decides}
-use Rattle.placement.specs.Pools.{stateOf, poolOf, ValidPool}
-use Rattle.placement.specs.Promises.{Fresh, shareReply, Shared}
-use Rattle.placement.specs.declared.Pool.{Pool}
-use Rattle.placement.specs.declared.PoolAnswer.{PoolAnswer}
-use Rattle.placement.specs.declared.ShareAnswer.{ShareAnswer}
-use Rattle.placement.specs.declared.ShareAnswer.the-variants.{Share, Refused}
+use Rattle.pools.specs.Pools.{stateOf, poolOf, ValidPool}
+use Rattle.pools.specs.Promises.{Fresh, shareReply, Shared}
+use Rattle.pools.specs.declared.Pool.{Pool}
+use Rattle.pools.specs.declared.PoolAnswer.{PoolAnswer}
+use Rattle.pools.specs.declared.ShareAnswer.{ShareAnswer}
+use Rattle.pools.specs.declared.ShareAnswer.the-variants.{Share, Refused}
 use Rattle.demand3.specs.Points.{Listed}
 use Rattle.guarantees.proofs.Conditions.{Inside, inside-false, inside-true, two-inside, two-outside, Decided, within, without, Says, says, listed-present, unlisted-absent}
 
 -- a pool of the range R and the limit M, without devices
-abbrev pub Bare : ℕ → ℕ → Pool → Type 0
-Bare R M p = p ≡ record {
+abbrev pub WithoutDevices : ℕ → ℕ → Pool → Type 0
+WithoutDevices R M p = p ≡ record {
   range = R;
   limit = M;
   devices = 0;
@@ -34,11 +34,11 @@ Bare R M p = p ≡ record {
 
 module _ (R M : ℕ) (r : PoolAnswer) (k : Fresh R M r) where
   -- a range or a limit outside its limits: 2, and the pool has R = 1 and M = 1
-  pub fresh-outside : (Inside 4294967296 R → Inside 4096 M → ⊥) → (r .refusal ≡ 2) × Bare 1 1 (r .pool)
+  pub fresh-outside : (Inside 4294967296 R → Inside 4096 M → ⊥) → (r .refusal ≡ 2) × WithoutDevices 1 1 (r .pool)
   unfolding poolOf
   fresh-outside h = let e = two-outside 4294967296 R 4096 M h in (rw e at (k .number), rw e at (k .pool))
 
-  pub fresh-inside : Inside 4294967296 R → Inside 4096 M → (r .refusal ≡ 0) × Bare R M (r .pool)
+  pub fresh-inside : Inside 4294967296 R → Inside 4096 M → (r .refusal ≡ 0) × WithoutDevices R M (r .pool)
   unfolding poolOf
   fresh-inside i j = let e = two-inside 4294967296 R 4096 M i j in (rw e at (k .number), rw e at (k .pool))
 

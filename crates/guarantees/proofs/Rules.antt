@@ -11,11 +11,11 @@ use mathlib.Core.Path.{_≡_}
 use mathlib.Core.List.{List, [], _∷_, _++_, List·Memᴰ}
 use Prim.Native.Nat.{ℕ, suc, _+_, _*_, _≤_, _<_, min}
 use lib.ListN.{length, take, drop}
-use Rattle.sha1.specs.Fips180.{schedule, rounds, pad, N}
-use Rattle.sha1.specs.declared.Hash.{Hash}
-use Rattle.sha1.specs.Sixteen.{run}
-use Rattle.sha1.proofs.Agree as Sha1
-use Rattle.sha1.proofs.Padding as Padding
+use Rattle.sha1_blocks.specs.Fips180.{schedule, rounds, pad, N}
+use Rattle.sha1_blocks.specs.declared.Hash.{Hash}
+use Rattle.sha1_blocks.specs.Sixteen.{run}
+use Rattle.sha1_blocks.proofs.Agree as Sha1
+use Rattle.sha1_blocks.proofs.Padding as Padding
 use Rattle.slicing.specs.Changes.{fresh, Change, add, remove, resize, change}
 use Rattle.slicing.specs.Devices.{Device, capacities, Rising}
 use Rattle.slicing.specs.Runs.{count, intervals}
@@ -23,9 +23,9 @@ use Rattle.slicing.specs.ShareRule.{shareOf}
 use Rattle.slicing.proofs.Cases as Cases
 use Rattle.slicing.proofs.Cases.{after, next, full}
 use Rattle.slicing.proofs.ShareRule as Shares
-use Rattle.placement.specs.Pools.{stateOf, poolOf, ValidPool}
-use Rattle.placement.specs.declared.Pool.{Pool}
-use Rattle.placement.specs.declared.PoolAnswer.{PoolAnswer}
+use Rattle.pools.specs.Pools.{stateOf, poolOf, ValidPool}
+use Rattle.pools.specs.declared.Pool.{Pool}
+use Rattle.pools.specs.declared.PoolAnswer.{PoolAnswer}
 use Rattle.lookup_core.specs.Probes.{choose}
 use Rattle.lookup_core.proofs.Choosing as Choosing
 use Rattle.lookup_core.proofs.Choosing.{firsts, Probed}
@@ -39,7 +39,7 @@ use Rattle.images.specs.declared.WriteAnswer.the-variants.{Written}
 use Rattle.images.proofs.RoundTrips as RoundTrips
 use Rattle.slicing_core.specs.Rows.{at}
 use Rattle.history_lines.specs.Lines.{lineIn}
-use Rattle.history_lines.specs.Text.{split}
+use Rattle.history_numbers.specs.Text.{split}
 use Rattle.history_lines.specs.declared.lines.LineAnswer.{LineAnswer}
 use Rattle.history.specs.Histories.{lastOf, linesOf, textOf, Complete, lineEnds, lineCount, readAll, poolAfter, acceptedLines, printedLines, unfinished}
 use Rattle.history.specs.Replay.{Reading, start, applied, replay, replayed, transcript, printedTable}

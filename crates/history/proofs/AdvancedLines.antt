@@ -31,7 +31,7 @@ use Rattle.plans.specs.Plans.{Planned, changeOf}
 use Rattle.history_lines.specs.declared.lines.LineAnswer.{LineAnswer}
 use Rattle.history_lines.specs.declared.lines.LineAnswer.the-variants.{Range, Refused}
 use Rattle.history.specs.Advances.{readingIn, changing, refused, Advanced}
-use Rattle.history.specs.Replay.{Reading, Result, places, refusal, settled, applied}
+use Rattle.history.specs.Replay.{Reading, Result, places, refusal, resultOf, applied}
 use Rattle.history.specs.declared.advancing.Step.{Step}
 use Rattle.history.proofs.OpenReadings.{state-renewed, open-renewed}
 
@@ -46,7 +46,7 @@ module _ (h : Reading) where
   line-early (Remove d) e = rw e
   line-early (Resize d c) e = rw e
 
-  pub line-begun : (call : Call) → h .begun ≡ true → applied h (changing call) ≡ settled (change (h .pool) places (changeOf call))
+  pub line-begun : (call : Call) → h .begun ≡ true → applied h (changing call) ≡ resultOf (change (h .pool) places (changeOf call))
   line-begun (Add d c) e = rw e
   line-begun (Remove d) e = rw e
   line-begun (Resize d c) e = rw e

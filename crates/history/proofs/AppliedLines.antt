@@ -1,63 +1,76 @@
--- One line applied: from a change's promise to its line's.
+-- One line applied to a pool by value.
 --
---   movesIn-zeros      a list of zeros holds places of zeros
---   line-begun, line-before   a change line after and before a range line
---   fresh-inside       the fresh pool of numbers within their limits
---   ranged-after, ranged-first   a range line after and before another
---   said-as, said-applied   what a line says, applied, answers the line
-use mathlib.Core.Path.{_≡_, refl, sym, ap, _∙_, subst}
-use mathlib.Core.Bool.{true, false}
-use mathlib.Core.List.{List, _∷_}
-use Prim.Native.Nat.{ℕ, zero, suc, _*_}
+--   line-before                   a change line before a range line
+--   line-invalid                  a change line on a pool that is not valid
+--   line-declined, line-accepted  a change line on a valid pool, from the plan of its change on the pool opened
+--   fresh-inside                  the fresh pool of numbers within their limits
+--   ranged-after, ranged-first    a range line after and before another
+--   said-as, said-applied         what a line says, applied, answers the line
+use mathlib.Core.Path.{_≡_, sym, ap, ap₂, _∙_, subst}
+use mathlib.Core.Bool.{Bool, true, false}
+use mathlib.Core.List.{List}
+use Prim.Native.Nat.{ℕ, _<_}
 use native.Mathlib.Omega.{arith}
-use lib.ListN.{replicate}
-use Rattle.placement.specs.Pools.{stateOf, poolOf, ValidPool}
-use Rattle.placement.specs.Promises.{movesIn, Fresh, Answered, Changed}
-use Rattle.placement.specs.declared.ChangeAnswer.{ChangeAnswer}
-use Rattle.placement.specs.declared.PoolAnswer.{PoolAnswer}
-use Rattle.slicing.specs.Changes.{fresh, Change, change}
-use Rattle.slicing.specs.Changes.{refused as refusal}
-use Rattle.slicing.specs.SixSteps.{move}
+use Rattle.slicing.specs.Changes.{State, fresh, Change, Outcome, change}
+use Rattle.slicing.proofs.Changes.{change-refused}
+use Rattle.opened.specs.declared.Opened.{Opened}
+use Rattle.opened.specs.OpenPools.{stateIn}
+use Rattle.plans.specs.declared.Call.{Call}
+use Rattle.plans.specs.declared.Plan.{Plan}
+use Rattle.plans.specs.Plans.{Planned, changeOf}
+use Rattle.pools.specs.Pools.{stateOf, poolOf, ValidPool}
+use Rattle.pools.specs.Promises.{Fresh}
+use Rattle.pools.specs.declared.Pool.{Pool}
+use Rattle.pools.specs.declared.PoolAnswer.{PoolAnswer}
 use Rattle.history_lines.specs.declared.lines.LineAnswer.{LineAnswer}
 use Rattle.history_lines.specs.declared.lines.LineAnswer.the-variants.{Range, Add, Remove, Resize, Refused}
 use Rattle.history_lines.specs.Lines.{rangeOutside, lineIn}
 use Rattle.history_lines.proofs.LineLimits.{Fits, lineIn-fits}
 use Rattle.history.specs.declared.applying.History.{History}
 use Rattle.history.specs.declared.applying.LineResult.{LineResult}
-use Rattle.history.specs.Promises.{refused, settledLine, rangedLine, appliedLine, ChangedLine, Said, Applied}
+use Rattle.history.specs.Promises.{refused, resultLine, rangedLine, appliedLine, ChangedLine, Said, Applied}
 use Rattle.history.specs.Replay.{places}
+use Rattle.history.proofs.AdvancedLines.{places-length}
 
-movesIn-four : (n : ℕ) → movesIn (replicate (4 * n) 0) ≡ replicate n (move 0 0 0 0)
-movesIn-four zero = refl
-movesIn-four (suc n) =
-    let e : 4 * suc n ≡ suc (suc (suc (suc (4 * n)))) = omega arith in
-    rw e (ap (λ ms. move 0 0 0 0 ∷ ms) (movesIn-four n))
-
-pub movesIn-zeros : movesIn (replicate 16384 0) ≡ places
-movesIn-zeros = movesIn-four 4096
-
--- the result that `settled` makes of a change's answer
-abbrev pub lineOfAnswer : ChangeAnswer → LineResult
-lineOfAnswer a = record { refusal = a .refusal; moved = a .moved; count = a .count; history = record { begun = true; pool = a .pool } }
+-- ---- a change line
 
 module _ (h : History) (k : Change) (r : LineResult) where
   pub line-before : r ≡ refused h 3 → h .begun ≡ false → ChangedLine h k r
-  line-before e b = record { valid = λ v. e ∙ rw b; invalid = λ n. e ∙ rw b }
+  line-before e b = record { valid = λ _. e ∙ rw b; invalid = λ _. e ∙ rw b }
 
-  pub line-begun : (list after : List ℕ) (a : ChangeAnswer) → list ≡ replicate 16384 0 → Changed (h .pool) list k a after → r ≡ lineOfAnswer a
-      → h .begun ≡ true → ChangedLine h k r
-  line-begun list after a l c e b = record { valid = λ v. e ∙ rw b (whole (c .valid v)); invalid = λ n. e ∙ rw b (none (c .invalid n)) }
-    where
-      lent : movesIn list ≡ places
-      lent = ap movesIn l ∙ movesIn-zeros
+  pub line-invalid : r ≡ refused h 2 → h .begun ≡ true → (ValidPool (h .pool) → ⊥) → ChangedLine h k r
+  line-invalid e b n = record { valid = λ v. absurd (n v); invalid = λ _. e ∙ rw b }
 
-      whole : Answered list (change (stateOf (h .pool)) (movesIn list) k) (poolOf (change (stateOf (h .pool)) (movesIn list) k .state)) a after
-          → lineOfAnswer a ≡ settledLine (change (stateOf (h .pool)) places k)
-      whole o = rw (o .number, o .moved, o .count, o .pool) (ap (λ ms. settledLine (change (stateOf (h .pool)) ms k)) lent)
+  line-valid : h .begun ≡ true → ValidPool (h .pool) → r ≡ resultLine (change (stateOf (h .pool)) places k) → ChangedLine h k r
+  line-valid b v e = record { valid = λ _. e ∙ rw b; invalid = λ n. absurd (n v) }
 
-      none : Answered list (refusal (stateOf (h .pool)) (movesIn list) 2) (h .pool) a after
-          → lineOfAnswer a ≡ record { refusal = 2; moved = 0; count = 0; history = record { begun = true; pool = h .pool } }
-      none o = rw (o .number, o .moved, o .count, o .pool)
+-- of a valid pool, by the plan on the pool opened
+module _ (h : History) (b : h .begun ≡ true) (v : ValidPool (h .pool)) (o : Opened) (table : List ℕ) (s : stateIn o table ≡ stateOf (h .pool))
+    (call : Call) (m : Plan) (work next : List ℕ)
+    (p : Planned (λ lent. change (stateIn o table) lent (changeOf call)) 4096 o m work next) where
+  abbrev outcome : Outcome
+  outcome = change (stateIn o table) places (changeOf call)
+
+  as-settled : {n x c : ℕ} {q : History} → n ≡ outcome .number → x ≡ outcome .moved → c ≡ outcome .count
+      → q ≡ record { begun = true; pool = poolOf (outcome .state) } → ChangedLine h (changeOf call) (record { refusal = n; moved = x; count = c; history = q })
+  as-settled en ex ec eq =
+      line-valid h (changeOf call) _ b v (rw (en, ex, ec, eq) (ap (λ (t : State). resultLine (change t places (changeOf call))) s))
+
+  pub line-declined : 0 < m .refusal → (r : LineResult) → r ≡ refused h (m .refusal) → ChangedLine h (changeOf call) r
+  line-declined z r e =
+      let number = p .number places places-length in
+      let u = change-refused (stateIn o table) places (changeOf call) (omega (arith, number, z)) in
+      let pool : h .pool ≡ poolOf (outcome .state) = sym (v .same) ∙ ap poolOf (sym (u .state ∙ s)) in
+      let same : h ≡ record { begun = true; pool = poolOf (outcome .state) } = ap₂ (λ (t : Bool) (q : Pool). record { begun = t; pool = q }) b pool in
+      subst (ChangedLine h (changeOf call)) (sym e) (as-settled number (sym (u .moved)) (sym (u .count)) same)
+
+  pub line-accepted : m .refusal ≡ 0 → (q : Pool) → q ≡ poolOf (stateIn (m .after) next)
+      → ChangedLine h (changeOf call) (record { refusal = 0; moved = m .moved; count = m .count; history = record { begun = true; pool = q } })
+  line-accepted z q e =
+      as-settled (sym z ∙ p .number places places-length) (p .moved places places-length) (p .count places places-length)
+      (ap (λ (q : Pool). record { begun = true; pool = q }) (e ∙ ap poolOf (p .state z places places-length)))
+
+-- ---- a range line
 
 -- a fresh pool of numbers within their limits
 pub fresh-inside : (R M : ℕ) (a : PoolAnswer) → rangeOutside R M ≡ false → Fresh R M a → a .pool ≡ poolOf (fresh R M)
@@ -76,7 +89,7 @@ module _ (h : History) (r : LineResult) where
   pub said-as : {l m : LineAnswer} → l ≡ m → Said h m r → Said h l r
   said-as e = subst (λ (l : LineAnswer). Said h l r) (sym e)
 
-  whole : (l : LineAnswer) → Fits l → Said h l r → ValidPool (h .pool) → r ≡ appliedLine h (λ k. settledLine (change (stateOf (h .pool)) places k)) l
+  whole : (l : LineAnswer) → Fits l → Said h l r → ValidPool (h .pool) → r ≡ appliedLine h (λ k. resultLine (change (stateOf (h .pool)) places k)) l
   whole (Refused n) f s v = s
   whole (Range R M) f s v = s f
   whole (Add d c) f s v = s .valid v

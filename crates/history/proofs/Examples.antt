@@ -11,7 +11,7 @@ use Rattle.slicing.specs.Changes.{change}
 use Rattle.slicing.specs.ShareRule.{shares}
 use Rattle.slicing.specs.SixSteps.{turns}
 use Rattle.history_lines.specs.Lines.{lineIn}
-use Rattle.history_lines.specs.Text.{numberIn, capacityIn}
+use Rattle.history_numbers.specs.Text.{numberIn, capacityIn}
 use Rattle.history_printing.specs.Printing.{decimal}
 use Rattle.history.specs.Replay.{replayed, transcript}
 

@@ -2,7 +2,7 @@
 --
 --   Ready o table work next       an opened pool with its table, and two more arrays: what `advance` asks
 --
--- Open: state-renewed, open-renewed (another array with the same runs), fresh-open (a pool without devices, with any array)
+-- Open: state-renewed, open-renewed (another array with the same runs)
 -- before the first line: start-ready, start-reading
 -- of equal parts: ready-as, reading-as
 use mathlib.Core.Path.{_≡_, sym, ap, _∙_, subst}
@@ -12,18 +12,14 @@ use Prim.Native.Nat.{ℕ}
 use native.Mathlib.Omega.{arith}
 use lib.ListN.{length, replicate, length-replicate}
 use Rattle.slicing.specs.Changes.{State, fresh}
-use Rattle.slicing.specs.Limits.{maxRange, maxLimit, outside}
 use Rattle.slicing.specs.Runs.{owned, relabel}
 use Rattle.slicing.specs.Validity.{Valid}
-use Rattle.slicing.proofs.Changes.{outside-false, or-false}
-use Rattle.slicing.proofs.Claims.{valid-fresh}
 use Rattle.slicing.proofs.Runs.{relabel-same}
 use Rattle.slicing_core.specs.Rows.{at}
 use Rattle.six_steps.specs.Words.{runs, room}
 use Rattle.opened.specs.declared.Opened.{Opened}
 use Rattle.opened.specs.OpenPools.{stateWith, stateIn, Open}
 use Rattle.opened.proofs.RowNames.{label-at}
-use Rattle.history_lines.specs.Lines.{rangeOutside}
 use Rattle.history.specs.Advances.{readingIn}
 use Rattle.history.specs.Replay.{start}
 
@@ -44,33 +40,12 @@ module _ (o : Opened) (next table : List ℕ) (e : runs table 0 (o .intervals) �
     tableSize = l;
   }
 
--- the pool that `fresh` makes
-module _ (R M : ℕ) (f : rangeOutside R M ≡ false) where
-  fresh-valid : Valid (fresh R M)
-  fresh-valid =
-      let i = or-false (outside maxRange R) (outside maxLimit M) f in
-      let s = outside-false maxRange R (i .0) in
-      let l = outside-false maxLimit M (i .1) in
-      valid-fresh R M (s .0) (s .1) (l .0) (l .1)
-
-  pub fresh-open : (is cs hs : List ℕ) → length is ≡ 256 → length cs ≡ 256 → length hs ≡ 256 → (table : List ℕ) → length table ≡ room
-      → Open (record { range = R; limit = M; devices = 0; ids = is; capacities = cs; has = hs; intervals = 0 }) table
-  fresh-open is cs hs i c h table l = record {
-    valid = fresh-valid;
-    labels = λ j b. absurd (omega arith);
-    held = λ j b. absurd (omega arith);
-    idsSize = i;
-    capacitiesSize = c;
-    hasSize = h;
-    tableSize = l;
-  }
-
 pub record Ready (o : Opened) (table work next : List ℕ) : Type 0 where
   pub opened : Open o table
   pub workSize : length work ≡ room
   pub nextSize : length next ≡ room
 
--- the pool that `fresh` makes, with arrays of zeros
+-- a pool without devices, with arrays of zeros
 module _ (o : Opened) (f : (table : List ℕ) → length table ≡ room → Open o table × (stateIn o table ≡ fresh 1 1)) where
   abbrev zeros : List ℕ
   zeros = replicate 8448 0

@@ -9,8 +9,8 @@ use mathlib.Core.List.{List}
 use Prim.Native.Nat.{ℕ, _≤_, _<_}
 use lib.ListN.{length, drop, drop-of-length-le}
 use borrow.Author.Tests.{lt-ltb, le-ltb}
-use Rattle.placement.specs.Pools.{poolOf}
-use Rattle.placement.specs.declared.Pool.{Pool}
+use Rattle.pools.specs.Pools.{poolOf}
+use Rattle.pools.specs.declared.Pool.{Pool}
 use Rattle.slicing.specs.Changes.{fresh}
 use Rattle.history_lines.specs.declared.lines.Part.{Part}
 use Rattle.history_lines.specs.Cuts.{partAt}

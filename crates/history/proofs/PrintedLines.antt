@@ -15,7 +15,7 @@ use Rattle.slicing.specs.Runs.{Interval, intervals}
 use Rattle.slicing.specs.Changes.{State}
 use Rattle.slicing.proofs.Counting.{count-append}
 use Rattle.history_lines.specs.Lines.{lineIn}
-use Rattle.history_lines.specs.Text.{lineEnd, space, zeroDigit, split}
+use Rattle.history_numbers.specs.Text.{lineEnd, space, zeroDigit, split}
 use Rattle.history_printing.specs.Printing.{digits, decimal, fields, printedRows}
 use Rattle.history.specs.Histories.{allButLast, lineEnds, lineCount, readAll, poolAfter, spaced, printedLines}
 use Rattle.history.specs.Replay.{Reading, start, Result, applied, printedTable, replay, replayed}

@@ -12,15 +12,15 @@ use native.Mathlib.Omega.{arith}
 use lib.Dec.{ltb}
 use lib.ListN.{length, take, drop, length-append, length-take, take-append-drop}
 use borrow.Author.Tests.{lt-ltb, le-ltb}
-use Rattle.placement.specs.Pools.{stateOf, ValidPool}
-use Rattle.placement.specs.declared.Pool.{Pool}
-use Rattle.placement.proofs.PoolLaws.{intervals-rows}
-use Rattle.placement.proofs.ValidParts.{valid-coalesced, valid-covers}
+use Rattle.pools.specs.Pools.{stateOf, ValidPool}
+use Rattle.pools.specs.declared.Pool.{Pool}
+use Rattle.pools.proofs.PoolLaws.{intervals-rows}
+use Rattle.pools.proofs.ValidParts.{valid-coalesced, valid-covers}
 use Rattle.slicing.specs.Replies.{replied, declined}
 use Rattle.slicing.specs.Runs.{intervals}
 use Rattle.slicing_core.specs.Rows.{intervalRows}
 use Rattle.slicing_core.proofs.Fronts.{front-put}
-use Rattle.history_lines.specs.Text.{lineEnd}
+use Rattle.history_numbers.specs.Text.{lineEnd}
 use Rattle.history_printing.specs.Printing.{printedRows}
 use Rattle.history.specs.declared.transcripts.TranscriptAnswer.{TranscriptAnswer}
 use Rattle.history.specs.declared.transcripts.TranscriptAnswer.the-variants.{Printed, Refused}

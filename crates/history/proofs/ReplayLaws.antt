@@ -15,7 +15,7 @@ use native.Mathlib.Omega.{arith}
 use lib.Dec.{ltb}
 use lib.ListN.{length, length-append}
 use borrow.Author.Tests.{ltb-true, le-ltb}
-use Rattle.placement.specs.Pools.{poolOf}
+use Rattle.pools.specs.Pools.{poolOf}
 use Rattle.slicing.specs.Changes.{State, fresh, Change, add, remove, resize}
 use Rattle.slicing.specs.Limits.{maxRange, maxLimit}
 use Rattle.slicing.specs.Validity.{Valid}
@@ -24,7 +24,7 @@ use Rattle.slicing.proofs.Claims.{valid-fresh}
 use Rattle.history_lines.specs.declared.lines.LineAnswer.{LineAnswer}
 use Rattle.history_lines.specs.declared.lines.LineAnswer.the-variants.{Range, Add, Remove, Resize, Refused}
 use Rattle.history_lines.specs.Lines.{rangeOutside, lineIn}
-use Rattle.history_lines.specs.Text.{lineEnd, split}
+use Rattle.history_numbers.specs.Text.{lineEnd, split}
 use Rattle.history_lines.proofs.LineLimits.{line-fits, range-limits}
 use Rattle.history.specs.Histories.{lastOf, linesOf, textOf, Whole, Complete, readAll, poolAfter, acceptedLines, printedLines, unfinished}
 use Rattle.history.specs.Replay.{Reading, start, Result, places, changed, applied, printedLine, printedTable, replay, maxText, replayed, transcript}

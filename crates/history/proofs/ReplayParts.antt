@@ -9,8 +9,8 @@ use lib.ListN.{length, take, drop, length-drop, drop-of-length-le}
 use lib.Seq.{drop-drop}
 use Rattle.history_lines.specs.declared.lines.Part.{Part}
 use Rattle.history_lines.specs.Cuts.{partAt}
-use Rattle.history_lines.specs.Text.{lineEnd, split}
-use Rattle.history_lines.proofs.Splitting.{split-whole, split-cut}
+use Rattle.history_numbers.specs.Text.{lineEnd, split}
+use Rattle.history_numbers.proofs.Splitting.{split-whole, split-cut}
 use Rattle.history_lines.proofs.TextParts.{restAt, endAt, endedPart, part-cases}
 use Rattle.history.specs.Histories.{allButLast, linesOf, readAll}
 use Rattle.history.specs.Replay.{Reading, refusal, applied, printedLine, printedTable, replay}

@@ -1,21 +1,21 @@
 -- The replay of a text: the invariant of `replay`, and its steps.
 --
 --   Replaying text out₀ h line from place out     before the line at place `from`, with the reading h, `place` bytes are printed
---   Told h l n m k                                the numbers n, m, k are those that the line l gives on the reading h
+--   Gives h l n m k                                the numbers n, m, k are those that the line l gives on the reading h
 --
 -- Replaying: replaying-none, replaying-room, replaying-step, replaying-table, replaying-end
 -- the pool that is printed: closed-valid, closed-state
--- Told: told-refused, told-advanced
+-- Gives: gives-refused, gives-advanced
 use mathlib.Core.Path.{_≡_, refl, sym, ap, ap₂, _∙_, subst}
 use mathlib.Core.List.{List, [], _∷_, _++_, append-assoc}
 use Prim.Native.Nat.{ℕ, _+_, _*_, _≤_, _<_}
 use native.Mathlib.Omega.{arith}
 use native.Mathlib.Numerals.{add-one}
 use lib.ListN.{length, take, drop, length-append, drop-of-length-le}
-use Rattle.placement.specs.Pools.{stateOf, poolOf, ValidPool}
-use Rattle.placement.specs.declared.Pool.{Pool}
-use Rattle.placement.proofs.PoolLaws.{stateOf-poolOf, validPool-poolOf}
-use Rattle.placement.proofs.ValidParts.{valid-limited}
+use Rattle.pools.specs.Pools.{stateOf, poolOf, ValidPool}
+use Rattle.pools.specs.declared.Pool.{Pool}
+use Rattle.pools.proofs.PoolLaws.{stateOf-poolOf, validPool-poolOf}
+use Rattle.pools.proofs.ValidParts.{valid-limited}
 use Rattle.slicing.specs.Changes.{State}
 use Rattle.slicing.specs.Validity.{Valid}
 use Rattle.slicing_core.proofs.Fronts.{front-put}
@@ -23,7 +23,7 @@ use Rattle.history_lines.specs.declared.lines.LineAnswer.{LineAnswer}
 use Rattle.history_lines.specs.declared.lines.LineAnswer.the-variants.{Refused}
 use Rattle.history_lines.specs.declared.lines.Part.{Part}
 use Rattle.history_lines.specs.Cuts.{partAt}
-use Rattle.history_lines.specs.Text.{lineEnd, split}
+use Rattle.history_numbers.specs.Text.{lineEnd, split}
 use Rattle.history_lines.proofs.TextParts.{part-above, part-within}
 use Rattle.history_printing.specs.Printing.{fields}
 use Rattle.history_printing.proofs.Decimals.{length-fields4}
@@ -42,16 +42,16 @@ module _ (s : State) (v : Valid s) (p : Pool) (e : p ≡ poolOf s) where
   pub closed-state : stateOf p ≡ s
   closed-state = ap stateOf e ∙ stateOf-poolOf s v
 
-pub record Told (h : Reading) (l : LineAnswer) (n m k : ℕ) : Type 0 where
+pub record Gives (h : Reading) (l : LineAnswer) (n m k : ℕ) : Type 0 where
   pub number : n ≡ applied h l .number
   pub moved : m ≡ applied h l .moved
   pub count : k ≡ applied h l .count
 
-pub told-refused : (h : Reading) {l : LineAnswer} {n r : ℕ} → l ≡ Refused r → n ≡ r → Told h l n 0 0
-told-refused h e f = rw e (record { number = f; moved = refl; count = refl })
+pub gives-refused : (h : Reading) {l : LineAnswer} {n r : ℕ} → l ≡ Refused r → n ≡ r → Gives h l n 0 0
+gives-refused h e f = rw e (record { number = f; moved = refl; count = refl })
 
-pub told-advanced : {h : Reading} {l : LineAnswer} {r : Step} {table : List ℕ} {n : ℕ} → Advanced h l r table → n ≡ r .refusal → Told h l n (r .moved) (r .count)
-told-advanced a f = record { number = f ∙ a .number; moved = a .moved; count = a .count }
+pub gives-advanced : {h : Reading} {l : LineAnswer} {r : Step} {table : List ℕ} {n : ℕ} → Advanced h l r table → n ≡ r .refusal → Gives h l n (r .moved) (r .count)
+gives-advanced a f = record { number = f ∙ a .number; moved = a .moved; count = a .count }
 
 module _ (text : List ℕ) where
   -- what is still to be printed from place `from` on
@@ -84,7 +84,7 @@ module _ (text : List ℕ) where
 
     module _ {h : Reading} {line from place : ℕ} {out : List ℕ} (w : Replaying out₀ h line from place out) (v : Valid (h .pool)) (t : length text ≤ 65536)
         (o : 3145728 ≤ length out₀) where
-      module _ (p : Part) (e : p ≡ partAt text from) (l : from < length text) (n m k : ℕ) (a : Told h (p .said) n m k) (b : n < 4294967296) where
+      module _ (p : Part) (e : p ≡ partAt text from) (l : from < length text) (n m k : ℕ) (a : Gives h (p .said) n m k) (b : n < 4294967296) where
         -- the printed line
         abbrev bytes : List ℕ
         bytes = fields (line ∷ n ∷ m ∷ k ∷ [])

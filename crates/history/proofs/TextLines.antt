@@ -15,7 +15,7 @@ use lib.ListN.{length, length-append}
 use borrow.Author.Tests.{eqb-true, eq-eqb}
 use Rattle.slicing.specs.Runs.{one, count}
 use Rattle.slicing.proofs.Counting.{eqb-sym}
-use Rattle.history_lines.specs.Text.{lineEnd, before, split}
+use Rattle.history_numbers.specs.Text.{lineEnd, before, split}
 use Rattle.history.specs.Histories.{allButLast, lastOf, linesOf, textOf, Complete, nothing, ended, lineEnds, Whole, some, lineCount}
 
 -- ---- parts

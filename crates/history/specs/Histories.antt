@@ -21,7 +21,7 @@ use lib.Dec.{ltb}
 use lib.ListN.{length}
 use Rattle.slicing.specs.Changes.{State}
 use Rattle.slicing.specs.Runs.{count}
-use Rattle.history_lines.specs.Text.{lineEnd, space, split}
+use Rattle.history_numbers.specs.Text.{lineEnd, space, split}
 use Rattle.history_lines.specs.Lines.{lineIn}
 use Rattle.history_printing.specs.Printing.{decimal, fields}
 use Rattle.history.specs.Replay.{Reading, start, applied, printedLine}

@@ -1,6 +1,6 @@
 -- What the offered calls on history text promise.
 --
---   settledLine ..        the result of a change line, from an outcome of the rules
+--   resultLine ..        the result of a change line, from an outcome of the rules
 --   rangedLine, appliedLine h f l   the result of a line, f answering the changes
 --   ChangedLine h k r     r answers the change line k on the history h
 --   Said h l r            r answers a line that says l on the history h
@@ -14,8 +14,8 @@ use mathlib.Core.List.{List, _++_}
 use Prim.Native.Nat.{ℕ}
 use lib.Dec.{ltb}
 use lib.ListN.{length, drop}
-use Rattle.placement.specs.Pools.{stateOf, poolOf, ValidPool}
-use Rattle.placement.specs.declared.PoolAnswer.{PoolAnswer}
+use Rattle.pools.specs.Pools.{stateOf, poolOf, ValidPool}
+use Rattle.pools.specs.declared.PoolAnswer.{PoolAnswer}
 use Rattle.slicing.specs.Changes.{fresh, Change, add, remove, resize, Outcome, change}
 use Rattle.slicing.specs.Replies.{Reply, replied, declined}
 use Rattle.history_lines.specs.declared.lines.LineAnswer.{LineAnswer}
@@ -31,8 +31,8 @@ use Rattle.history.specs.Replay.{places, maxText, transcript}
 abbrev pub refused : History → ℕ → LineResult
 refused h n = record { refusal = n; moved = 0; count = 0; history = h }
 
-abbrev pub settledLine : Outcome → LineResult
-settledLine o =
+abbrev pub resultLine : Outcome → LineResult
+resultLine o =
     record { refusal = o .number; moved = o .moved; count = o .count; history = record { begun = true; pool = poolOf (o .state) } }
 
 -- '3: a range line after an accepted one'
@@ -50,7 +50,7 @@ appliedLine h f (Resize d c) = cond (h .begun) (f (resize d c)) (refused h 3)
 
 -- of a valid pool the rules' outcome; a change of any other is refused with 2
 pub record ChangedLine (h : History) (k : Change) (r : LineResult) : Type 0 where
-  pub valid : ValidPool (h .pool) → r ≡ cond (h .begun) (settledLine (change (stateOf (h .pool)) places k)) (refused h 3)
+  pub valid : ValidPool (h .pool) → r ≡ cond (h .begun) (resultLine (change (stateOf (h .pool)) places k)) (refused h 3)
   pub invalid : (ValidPool (h .pool) → ⊥) → r ≡ cond (h .begun) (refused h 2) (refused h 3)
 
 -- what a line says, with a range within its limits
@@ -62,7 +62,7 @@ Said h (Remove d) r = ChangedLine h (remove d) r
 Said h (Resize d c) r = ChangedLine h (resize d c) r
 
 pub record Applied (h : History) (xs : List ℕ) (r : LineResult) : Type 0 where
-  pub valid : ValidPool (h .pool) → r ≡ appliedLine h (λ k. settledLine (change (stateOf (h .pool)) places k)) (lineIn xs)
+  pub valid : ValidPool (h .pool) → r ≡ appliedLine h (λ k. resultLine (change (stateOf (h .pool)) places k)) (lineIn xs)
   pub invalid : (ValidPool (h .pool) → ⊥) → r ≡ appliedLine h (λ k. refused h 2) (lineIn xs)
 
 -- the room that every transcript fits in: 44 bytes for each of 65,536 lines, 33 for each of 4,096 intervals, 6 for `table`

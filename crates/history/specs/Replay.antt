@@ -16,7 +16,7 @@ use Rattle.slicing.specs.Runs.{intervals}
 use Rattle.slicing.specs.SixSteps.{Move, move}
 use Rattle.history_lines.specs.declared.lines.LineAnswer.{LineAnswer}
 use Rattle.history_lines.specs.declared.lines.LineAnswer.the-variants.{Range, Add, Remove, Resize, Refused}
-use Rattle.history_lines.specs.Text.{lineEnd, split}
+use Rattle.history_numbers.specs.Text.{lineEnd, split}
 use Rattle.history_lines.specs.Lines.{lineIn}
 use Rattle.history_printing.specs.Printing.{fields, printedRows}
 
@@ -42,12 +42,12 @@ refusal h n = record { number = n; moved = 0; count = 0; after = h }
 abbrev pub places : List Move
 places = replicate 4096 (move 0 0 0 0)
 
-abbrev pub settled : Outcome → Result
-settled o = record { number = o .number; moved = o .moved; count = o .count; after = record { begun = true; pool = o .state } }
+abbrev pub resultOf : Outcome → Result
+resultOf o = record { number = o .number; moved = o .moved; count = o .count; after = record { begun = true; pool = o .state } }
 
 -- '3: a change line with no range line accepted before'
 abbrev pub changed : Reading → Change → Result
-changed h k = cond (h .begun) (settled (change (h .pool) places k)) (refusal h 3)
+changed h k = cond (h .begun) (resultOf (change (h .pool) places k)) (refusal h 3)
 
 -- '3: a range line after an accepted one'
 abbrev pub applied : Reading → LineAnswer → Result

@@ -1,17 +1,18 @@
 // One line of a history on an opened pool, whose validity is a fact that is carried.
 use history_lines::LineAnswer;
 use opened::Opened;
+use opened::making::without_devices;
 use plans::Call;
 use plans::calls::plan;
 use plans::labels::renew;
 use six_steps::runs::ROOM;
+use slicing::MISPLACED;
 ghost use mathlib.Core.Path.{_≡_};
 ghost use mathlib.Core.Bool.{false};
 ghost use mathlib.Core.List.{List};
 ghost use Prim.Native.Nat.{ℕ};
 ghost use lib.ListN.{length};
-ghost use Rattle.slicing.specs.Changes as Changes;
-ghost use Rattle.opened.specs.OpenPools.{stateIn, Open};
+ghost use Rattle.opened.specs.OpenPools.{Open};
 ghost use Rattle.six_steps.specs.Words.{room};
 ghost use Rattle.history_lines.specs.Lines.{rangeOutside};
 ghost use Rattle.history_lines.specs.declared.lines.LineAnswer.the-variants.{Range};
@@ -20,7 +21,7 @@ ghost use Rattle.history.specs.Advances.{Advanced, changing, readingIn};
 ghost use Rattle.history.specs.Advances.{refused as refusedStep};
 
 // The places of the list that a line's change is lent.
-const PLACES: usize = 4096;
+pub const PLACES: usize = 4096;
 
 // What a line gives: the refusal number or 0, the moved points, the number of moves; and whether a range
 // line was accepted, and the pool, afterwards. The pool's table stands in an array of its own.
@@ -30,22 +31,6 @@ pub struct Step {
     pub count: usize,
     pub begun: bool,
     pub pool: Opened,
-}
-
-// A pool of so many points and at most so many intervals, without devices. Any array is its table.
-pub fn fresh(range: u64, limit: u64) -> Opened
-    requires { ⌜ rangeOutside range limit ≡ false ⌝ }
-    ensures { λ r. ⌜ ((table : List ℕ) → length table ≡ room → Open r table × (stateIn r table ≡ Changes.fresh range limit)) ⌝ }
-{
-    Opened {
-        range: range,
-        limit: limit,
-        devices: 0,
-        ids: [0; 256],
-        capacities: [0; 256],
-        has: [0; 256],
-        intervals: 0,
-    }
 }
 
 fn refused(begun: bool, pool: Opened, refusal: u32) -> Step
@@ -66,9 +51,9 @@ fn range_line(begun: bool, pool: Opened, range: u64, limit: u64) -> Step
     ensures { λ r. ⌜ ((table : List ℕ) → Open pool table → Advanced (readingIn begun pool table) (Range range limit) r table) ⌝ }
 {
     if begun {
-        return refused(begun, pool, 3);
+        return refused(begun, pool, MISPLACED);
     }
-    let after = fresh(range, limit);
+    let after = without_devices(range, limit);
     Step {
         refusal: 0,
         moved: 0,
@@ -92,7 +77,7 @@ fn change(
     ensures { λ r. ⌜ (length (now (work .exit)) ≡ room) × (length (now (next .exit)) ≡ room) ⌝ }
 {
     if !begun {
-        return refused(begun, pool, 3);
+        return refused(begun, pool, MISPLACED);
     }
     let made = plan(pool, call, PLACES, &*table, &mut *work, &mut *next);
     let after = made.after;

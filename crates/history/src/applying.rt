@@ -1,15 +1,20 @@
-// One line of a history, applied.
+// One line of a history, applied to a pool by value.
+use crate::advancing::PLACES;
 use history_lines::LineAnswer;
 use history_lines::line;
-use placement::Call;
-use placement::ChangeAnswer;
-use placement::Pool;
-use placement::fresh;
+use plans::Call;
+use plans::calls::plan;
+use pools::Pool;
+use pools::close;
+use pools::fresh;
+use pools::open;
+use six_steps::runs::blank;
+use slicing::MISPLACED;
+use slicing::OUTSIDE;
 ghost use mathlib.Core.Path.{_≡_};
 ghost use mathlib.Core.Bool.{true, false};
-ghost use lib.ListN.{replicate};
-ghost use Rattle.placement.specs.Pools.{poolOf};
-ghost use Rattle.placement.specs.Promises.{changeOf};
+ghost use Rattle.pools.specs.Pools.{poolOf};
+ghost use Rattle.plans.specs.Plans.{changeOf};
 ghost use Rattle.slicing.specs.Changes as Changes;
 ghost use Rattle.history_lines.specs.Lines.{rangeOutside};
 ghost use Rattle.history.specs.Promises.{rangedLine, ChangedLine, Said, Applied};
@@ -55,36 +60,12 @@ fn refused(history: History, refusal: u32) -> LineResult
     }
 }
 
-// The list of 4,096 places, four numbers each.
-fn list() -> [u64; 16384]
-    ensures { λ r. ⌜ r ≡ replicate 16384 0 ⌝ }
-{
-    [0; 16384]
-}
-
-// A change's answer as the result of its line.
-fn settled(answer: ChangeAnswer) -> LineResult
-    ensures { λ r. ⌜ r ≡ record { refusal = answer .refusal; moved = answer .moved; count = answer .count; history = record { begun = true; pool = answer .pool } } ⌝ }
-{
-    let pool = answer.pool;
-    let history = History {
-        begun: true,
-        pool: pool,
-    };
-    LineResult {
-        refusal: answer.refusal,
-        moved: answer.moved,
-        count: answer.count,
-        history: history,
-    }
-}
-
 // A range line: it comes first, once.
 fn ranged(history: History, range: u64, limit: u64) -> LineResult
     ensures { λ r. ⌜ (rangeOutside range limit ≡ false → r ≡ rangedLine history range limit) ⌝ }
 {
     if history.begun {
-        return refused(history, 3);
+        return refused(history, MISPLACED);
     }
     let answer = fresh(range, limit);
     let pool = answer.pool;
@@ -100,16 +81,37 @@ fn ranged(history: History, range: u64, limit: u64) -> LineResult
     }
 }
 
-// A change line: a range line comes before it.
+// A change line: a range line comes before it. 2 for a pool that is not valid.
 fn changed(history: History, call: Call) -> LineResult
     ensures { λ r. ⌜ ChangedLine history (changeOf call) r ⌝ }
 {
     if !history.begun {
-        return refused(history, 3);
+        return refused(history, MISPLACED);
     }
     let pool = history.pool;
-    let mut places = list();
-    settled(placement::changed(pool, call, &mut places))
+    let mut table = blank();
+    let checked = open(pool, &mut table);
+    if !checked.valid {
+        return refused(history, OUTSIDE);
+    }
+    let before = checked.opened;
+    let mut work = blank();
+    let mut next = blank();
+    let made = plan(before, call, PLACES, &table, &mut work, &mut next);
+    if made.refusal > 0 {
+        return refused(history, made.refusal);
+    }
+    let after = made.after;
+    let left = History {
+        begun: true,
+        pool: close(after, &next),
+    };
+    LineResult {
+        refusal: 0,
+        moved: made.moved,
+        count: made.count,
+        history: left,
+    }
 }
 
 // What a line says, applied to a history.

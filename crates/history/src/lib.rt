@@ -3,7 +3,7 @@
 // `capacity` and `line` are those of `history_lines`.
 mod advancing;
 mod applying;
-mod pools;
+mod last_pool;
 mod transcripts;
 
 pub use applying::History;
@@ -13,7 +13,7 @@ pub use history_lines::CapacityAnswer;
 pub use history_lines::LineAnswer;
 pub use history_lines::capacity;
 pub use history_lines::line;
-pub use pools::pool_after;
+pub use last_pool::pool_after;
 pub use transcripts::ROOM;
 pub use transcripts::TranscriptAnswer;
 pub use transcripts::transcript;

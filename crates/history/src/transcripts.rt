@@ -1,19 +1,20 @@
 // What `slices` prints of a history text.
 use crate::advancing::advance;
-use crate::advancing::fresh;
 use history_lines::LineAnswer;
 use history_lines::part_at;
 use history_printing::put_line;
 use history_printing::put_rows;
 use history_printing::put_text;
 use history_printing::wide32;
-use opening::close;
-use placement::Pool;
+use opened::making::without_devices;
+use pools::Pool;
+use pools::close;
+use slicing::SHORT_BUFFER;
 ghost use mathlib.Core.Path.{_≡_};
 ghost use mathlib.Core.List.{_++_};
 ghost use Prim.Native.Nat.{_+_, _*_, _≤_};
 ghost use lib.ListN.{length, take, drop};
-ghost use Rattle.placement.specs.Pools.{stateOf, ValidPool};
+ghost use Rattle.pools.specs.Pools.{stateOf, ValidPool};
 ghost use Rattle.history.specs.Promises.{Transcribed};
 ghost use Rattle.history.specs.Replay.{printedTable, replayed};
 
@@ -59,7 +60,7 @@ fn replay(text: &[u8], out: &mut [u8]) -> usize
     let mut work = [0u64; six_steps::runs::ROOM];
     let mut next = [0u64; six_steps::runs::ROOM];
     let mut begun = false;
-    let mut pool = fresh(1, 1);
+    let mut pool = without_devices(1, 1);
     let mut line = 1;
     let mut from = 0;
     let mut place = 0;
@@ -97,7 +98,7 @@ pub fn transcript(text: &[u8], out: &mut [u8]) -> TranscriptAnswer
     ensures { λ r. ⌜ Transcribed (now (text .entry)) (now (out .entry)) r (now (out .exit)) ⌝ }
 {
     if out.len() < ROOM {
-        return TranscriptAnswer::Refused(17);
+        return TranscriptAnswer::Refused(SHORT_BUFFER);
     }
     if text.len() > LONGEST {
         return TranscriptAnswer::Printed(put_text(&mut *out, 0, b"too long\n"));

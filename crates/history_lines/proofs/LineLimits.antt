@@ -13,10 +13,10 @@ use Rattle.slicing.specs.Limits.{maxRange, maxLimit, maxId, outside}
 use Rattle.slicing.proofs.Changes.{or-false, outside-false}
 use Rattle.history_lines.specs.declared.lines.LineAnswer.{LineAnswer}
 use Rattle.history_lines.specs.declared.lines.LineAnswer.the-variants.{Range, Add, Remove, Resize, Refused}
-use Rattle.history_lines.specs.declared.numbers.Parsed.{Parsed}
-use Rattle.history_lines.specs.declared.numbers.Parsed.the-variants.{Number, Shapeless}
+use Rattle.history_numbers.specs.declared.numbers.Parsed.{Parsed}
+use Rattle.history_numbers.specs.declared.numbers.Parsed.the-variants.{Number, Shapeless}
 use Rattle.history_lines.specs.Lines.{rangeWord, addWord, removeWord, resizeWord, same, pairLine, removeLine, rangeOutside, deviceOutside, lineOf, lineIn}
-use Rattle.history_lines.specs.Text.{space, split, numberIn, capacityIn}
+use Rattle.history_numbers.specs.Text.{space, split, numberIn, capacityIn}
 
 -- a line within its limits
 abbrev pub Fits : LineAnswer → Type 0

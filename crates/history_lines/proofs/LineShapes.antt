@@ -22,17 +22,18 @@ use types.Run.{OneOf}
 use denote.Enum.Declared.{tagOf}
 use borrow.Author.Tests.{eq-eqb, ne-eqb}
 use Rattle.slicing.specs.Limits.{maxId, maxCapacity, outside}
-use Rattle.history_lines.specs.Text.{space, split, numberIn, capacityIn}
-use Rattle.history_lines.specs.Lines.{capacityReply, capacityAnswer, lineReply, same, rangeWord, addWord, removeWord, resizeWord, pairLine, removeLine, rangeOutside, deviceOutside, threeWords, lineOf, lineIn, LineRead}
-use Rattle.history_lines.specs.declared.numbers.CapacityAnswer.{CapacityAnswer}
-use Rattle.history_lines.specs.declared.numbers.CapacityAnswer.the-variants as Capacity
+use Rattle.history_numbers.specs.Text.{space, split, numberIn, capacityIn}
+use Rattle.history_numbers.specs.Capacities.{capacityReply, capacityAnswer}
+use Rattle.history_lines.specs.Lines.{lineReply, same, rangeWord, addWord, removeWord, resizeWord, pairLine, removeLine, rangeOutside, deviceOutside, threeWords, lineOf, lineIn, LineRead}
+use Rattle.history_numbers.specs.declared.numbers.CapacityAnswer.{CapacityAnswer}
+use Rattle.history_numbers.specs.declared.numbers.CapacityAnswer.the-variants as Capacity
 use Rattle.history_lines.specs.declared.lines.LineAnswer.{LineAnswer}
 use Rattle.history_lines.specs.declared.lines.LineAnswer.the-variants.{Range, Add, Remove, Resize, Refused}
-use Rattle.history_lines.specs.declared.numbers.Parsed.{Parsed}
-use Rattle.history_lines.specs.declared.numbers.Parsed.the-variants.{Number, Shapeless}
+use Rattle.history_numbers.specs.declared.numbers.Parsed.{Parsed}
+use Rattle.history_numbers.specs.declared.numbers.Parsed.the-variants.{Number, Shapeless}
 use Rattle.history_lines.proofs.lines.LineAnswer.{the-type}
-use Rattle.history_lines.proofs.NumberWords.{and-false}
-use Rattle.history_lines.proofs.Splitting.{split-some, Found, behind, Cut, cut-made, found-whole, cut-split}
+use Rattle.history_numbers.proofs.NumberWords.{and-false}
+use Rattle.history_numbers.proofs.Splitting.{split-some, Found, behind, Cut, cut-made, found-whole, cut-split}
 
 -- ---- same
 

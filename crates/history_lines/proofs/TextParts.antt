@@ -18,11 +18,12 @@ use borrow.Author.Tests.{lt-ltb, le-ltb, ltb-true, ltb-false}
 use Rattle.history_lines.specs.declared.lines.LineAnswer.{LineAnswer}
 use Rattle.history_lines.specs.declared.lines.LineAnswer.the-variants.{Refused}
 use Rattle.history_lines.specs.declared.lines.Part.{Part}
-use Rattle.history_lines.specs.Cuts.{cutAt, partAt}
+use Rattle.history_numbers.specs.Cuts.{cutAt}
+use Rattle.history_lines.specs.Cuts.{partAt}
 use Rattle.history_lines.specs.Lines.{lineIn}
-use Rattle.history_lines.specs.Text.{lineEnd}
+use Rattle.history_numbers.specs.Text.{lineEnd}
 use Rattle.history_lines.proofs.LineLimits.{Fits, shapeless, lineIn-fits}
-use Rattle.history_lines.proofs.Splitting.{cutAt-below}
+use Rattle.history_numbers.proofs.Splitting.{cutAt-below}
 
 module _ (xs : List ℕ) (n : ℕ) where
   abbrev pub restAt : List ℕ

@@ -1,20 +1,16 @@
 -- Where a text is cut: how the code finds the parts.
 --
---   cutAt s xs     how many bytes stand before the first byte s
 --   partAt xs n    the line of the text xs from place n on: what it says, and where the next one starts
 use mathlib.Core.Bool.{cond}
-use mathlib.Core.List.{List, [], _∷_}
-use Prim.Native.Nat.{ℕ, suc, _+_}
-use lib.Dec.{eqb, ltb}
+use mathlib.Core.List.{List}
+use Prim.Native.Nat.{ℕ, _+_}
+use lib.Dec.{ltb}
 use lib.ListN.{length, take, drop}
 use Rattle.history_lines.specs.declared.lines.LineAnswer.the-variants.{Refused}
 use Rattle.history_lines.specs.declared.lines.Part.{Part}
 use Rattle.history_lines.specs.Lines.{lineIn}
-use Rattle.history_lines.specs.Text.{lineEnd}
-
-abbrev pub cutAt : ℕ → List ℕ → ℕ
-cutAt s [] = 0
-cutAt s (b ∷ bs) = let r = cutAt s bs in cond (eqb b s) 0 (suc r)
+use Rattle.history_numbers.specs.Cuts.{cutAt}
+use Rattle.history_numbers.specs.Text.{lineEnd}
 
 -- the line of a text from place n on. 'A last line with no line end is a line and is refused with 1.'
 abbrev pub partAt : List ℕ → ℕ → Part

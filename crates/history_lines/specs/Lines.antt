@@ -1,33 +1,24 @@
 -- Lines of a history. Renders document 01, 'History text' and the rows of 'Where a call stops' on text.
 --
---   capacityReply r, lineReply r    document 01's number and values of an answer
---   capacityAnswer p    the answer of the capacity reader, and parsedReply p its reply
---   CapacityRead xs r   r answers the call for the capacity that the word xs is
---   lineOf ws           what a line of the words ws says
---   lineIn xs           what the line xs says
---   LineRead xs r       r answers the call for what the line xs says
+--   lineReply r      document 01's number and values of an answer
+--   lineOf ws        what a line of the words ws says
+--   lineIn xs        what the line xs says
+--   LineRead xs r    r answers the call for what the line xs says
 use mathlib.Core.Path.{_≡_}
 use mathlib.Core.Bool.{Bool, true, false, cond, _&&_, _||_}
 use mathlib.Core.List.{List, [], _∷_}
 use Prim.Native.Nat.{ℕ}
 use lib.Dec.{eqb}
 use Rattle.slicing.specs.Limits.{maxRange, maxLimit, maxId, maxCapacity, outside}
-use Rattle.slicing.specs.Replies.{Reply, replied, declined}
-use Rattle.history_lines.specs.declared.numbers.CapacityAnswer.{CapacityAnswer}
-use Rattle.history_lines.specs.declared.numbers.CapacityAnswer.the-variants as Capacity
 use Rattle.history_lines.specs.declared.lines.LineAnswer.{LineAnswer}
 use Rattle.history_lines.specs.declared.lines.LineAnswer.the-variants.{Range, Add, Remove, Resize, Refused}
-use Rattle.history_lines.specs.declared.numbers.Parsed.{Parsed}
-use Rattle.history_lines.specs.declared.numbers.Parsed.the-variants.{Number, Shapeless}
-use Rattle.history_lines.specs.Text.{space, split, numberIn, capacityIn}
+use Rattle.history_numbers.specs.declared.numbers.Parsed.{Parsed}
+use Rattle.history_numbers.specs.declared.numbers.Parsed.the-variants.{Number, Shapeless}
+use Rattle.history_numbers.specs.Text.{space, split, numberIn, capacityIn}
 
 -- ---- replies
 
 -- 'For an answer that is an enum, a definition gives this paper's number and values for each case of the enum.'
-abbrev pub capacityReply : CapacityAnswer → Reply
-capacityReply (Capacity.Thousandths c) = replied c
-capacityReply (Capacity.Refused n) = declined n
-
 -- the refusal number or 0, and the numbers that the line gives, none if it is refused
 pub record LineReply : Type 0 where
   pub number : ℕ
@@ -39,21 +30,6 @@ lineReply (Add d c) = record { number = 0; values = d ∷ c ∷ [] }
 lineReply (Remove d) = record { number = 0; values = d ∷ [] }
 lineReply (Resize d c) = record { number = 0; values = d ∷ c ∷ [] }
 lineReply (Refused n) = record { number = n; values = [] }
-
--- ---- capacities
-
--- 1 for a word that is no capacity, 2 for one outside its limits
-abbrev pub capacityAnswer : Parsed → CapacityAnswer
-capacityAnswer Shapeless = Capacity.Refused 1
-capacityAnswer (Number c) = cond (outside maxCapacity c) (Capacity.Refused 2) (Capacity.Thousandths c)
-
-abbrev pub parsedReply : Parsed → Reply
-parsedReply Shapeless = declined 1
-parsedReply (Number c) = cond (outside maxCapacity c) (declined 2) (replied c)
-
-pub record CapacityRead (xs : List ℕ) (r : CapacityAnswer) : Type 0 where
-  pub answer : r ≡ capacityAnswer (capacityIn xs)
-  pub reply : capacityReply r ≡ parsedReply (capacityIn xs)
 
 -- ---- the four shapes
 

@@ -1,11 +1,10 @@
-// Words, numbers, capacities and lines of history text. Any bytes get an answer. Knows nothing of pools.
-// Offered: `capacity` and `line`. Internal, for `history`: the line of a text from a place on.
+// Lines of history text. Any bytes get an answer. Knows nothing of pools.
+// Offered: `line`, and `capacity` of `history_numbers`. Internal, for `history`: the line of a text from a place on.
 mod lines;
-mod numbers;
 
+pub use history_numbers::CapacityAnswer;
+pub use history_numbers::capacity;
 pub use lines::LineAnswer;
 pub use lines::Part;
 pub use lines::line;
 pub use lines::part_at;
-pub use numbers::CapacityAnswer;
-pub use numbers::capacity;

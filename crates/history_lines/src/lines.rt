@@ -1,21 +1,24 @@
 // Lines of a history.
-use crate::numbers::CapacityAnswer;
-use crate::numbers::Parsed;
-use crate::numbers::capacity;
-use crate::numbers::find;
-use crate::numbers::number;
+use history_numbers::CapacityAnswer;
+use history_numbers::Parsed;
+use history_numbers::capacity;
+use history_numbers::find;
+use history_numbers::number;
+use slicing::MAX_ID;
+use slicing::MAX_LIMIT;
+use slicing::MAX_RANGE;
+use slicing::OUTSIDE;
+use slicing::SHAPELESS;
 ghost use mathlib.Core.Path.{_≡_};
 ghost use Prim.Native.Nat.{_≤_};
 ghost use lib.ListN.{length};
 ghost use Rattle.slicing.specs.Limits as Limits;
 ghost use Rattle.history_lines.specs.Lines as Lines;
-ghost use Rattle.history_lines.specs.Lines.{capacityReply, pairLine, removeLine, rangeOutside, deviceOutside, threeWords, LineRead};
+ghost use Rattle.history_numbers.specs.Capacities.{capacityReply};
+ghost use Rattle.history_lines.specs.Lines.{pairLine, removeLine, rangeOutside, deviceOutside, threeWords, LineRead};
 ghost use Rattle.history_lines.specs.Cuts.{partAt};
-ghost use Rattle.history_lines.specs.Text.{numberIn, capacityIn};
+ghost use Rattle.history_numbers.specs.Text.{numberIn, capacityIn};
 ghost use Rattle.history_lines.specs.declared.lines.LineAnswer.the-variants.{Range, Add, Resize};
-
-// Ids are 1 to this.
-const LARGEST_ID: u64 = 65535;
 
 // What a line says, or the number that refuses it.
 pub enum LineAnswer {
@@ -57,16 +60,16 @@ fn range_line(first: &[u8], second: &[u8]) -> LineAnswer
     ensures { λ r. ⌜ r ≡ pairLine Range rangeOutside (numberIn (now (first .entry))) (numberIn (now (second .entry))) ⌝ }
 {
     let Parsed::Number(range) = number(first) else {
-        return LineAnswer::Refused(1);
+        return LineAnswer::Refused(SHAPELESS);
     };
     let Parsed::Number(limit) = number(second) else {
-        return LineAnswer::Refused(1);
+        return LineAnswer::Refused(SHAPELESS);
     };
-    if outside(4294967296, range) {
-        return LineAnswer::Refused(2);
+    if outside(MAX_RANGE, range) {
+        return LineAnswer::Refused(OUTSIDE);
     }
-    if outside(4096, limit) {
-        return LineAnswer::Refused(2);
+    if outside(MAX_LIMIT, limit) {
+        return LineAnswer::Refused(OUTSIDE);
     }
     LineAnswer::Range(range, limit)
 }
@@ -86,14 +89,14 @@ fn add_line(first: &[u8], second: &[u8]) -> LineAnswer
     ensures { λ r. ⌜ r ≡ pairLine Add deviceOutside (numberIn (now (first .entry))) (capacityIn (now (second .entry))) ⌝ }
 {
     let Parsed::Number(id) = number(first) else {
-        return LineAnswer::Refused(1);
+        return LineAnswer::Refused(SHAPELESS);
     };
     let answer = capacity(second);
     let CapacityAnswer::Thousandths(value) = answer else {
         return LineAnswer::Refused(refusal_of(answer));
     };
-    if outside(LARGEST_ID, id) {
-        return LineAnswer::Refused(2);
+    if outside(MAX_ID, id) {
+        return LineAnswer::Refused(OUTSIDE);
     }
     LineAnswer::Add(id, value)
 }
@@ -104,7 +107,7 @@ fn resize_line(first: &[u8], second: &[u8]) -> LineAnswer
     match add_line(first, second) {
         LineAnswer::Add(id, value) => LineAnswer::Resize(id, value),
         LineAnswer::Refused(refusal) => LineAnswer::Refused(refusal),
-        _ => LineAnswer::Refused(1),
+        _ => LineAnswer::Refused(SHAPELESS),
     }
 }
 
@@ -112,10 +115,10 @@ fn remove_line(word: &[u8]) -> LineAnswer
     ensures { λ r. ⌜ r ≡ removeLine (numberIn (now (word .entry))) ⌝ }
 {
     let Parsed::Number(id) = number(word) else {
-        return LineAnswer::Refused(1);
+        return LineAnswer::Refused(SHAPELESS);
     };
-    if outside(LARGEST_ID, id) {
-        return LineAnswer::Refused(2);
+    if outside(MAX_ID, id) {
+        return LineAnswer::Refused(OUTSIDE);
     }
     LineAnswer::Remove(id)
 }
@@ -132,7 +135,7 @@ fn three_words(key: &[u8], first: &[u8], second: &[u8]) -> LineAnswer
     if same(key, b"resize") {
         return resize_line(first, second);
     }
-    LineAnswer::Refused(1)
+    LineAnswer::Refused(SHAPELESS)
 }
 
 // What a line says, without its line end. 1 where it is not one of the four shapes, then 2 where a number
@@ -142,7 +145,7 @@ pub fn line(text: &[u8]) -> LineAnswer
 {
     let end = find(text, b' ');
     if end == text.len() {
-        return LineAnswer::Refused(1);
+        return LineAnswer::Refused(SHAPELESS);
     }
     let next = end + 1;
     let rest = &text[next..];
@@ -151,12 +154,12 @@ pub fn line(text: &[u8]) -> LineAnswer
         if same(&text[..end], b"remove") {
             return remove_line(rest);
         }
-        return LineAnswer::Refused(1);
+        return LineAnswer::Refused(SHAPELESS);
     }
     let last = middle + 1;
     let tail = &rest[last..];
     if find(tail, b' ') != tail.len() {
-        return LineAnswer::Refused(1);
+        return LineAnswer::Refused(SHAPELESS);
     }
     three_words(&text[..end], &rest[..middle], tail)
 }
@@ -181,7 +184,7 @@ pub fn part_at(text: &[u8], from: usize) -> Part
         };
     }
     Part {
-        said: LineAnswer::Refused(1),
+        said: LineAnswer::Refused(SHAPELESS),
         next: text.len(),
     }
 }

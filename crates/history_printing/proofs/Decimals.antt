@@ -17,7 +17,7 @@ use native.Mathlib.Nat.{pow-suc}
 use lib.Dec.{ltb}
 use lib.ListN.{length, length-append}
 use borrow.Author.Tests.{lt-ltb, le-ltb}
-use Rattle.history_lines.specs.Text.{lineEnd, space, zeroDigit}
+use Rattle.history_numbers.specs.Text.{lineEnd, space, zeroDigit}
 use Rattle.history_printing.specs.Printing.{digits, decimal, fields}
 
 tenth : (k n : ℕ) → n < 10 ^ suc (suc k) → n / 10 < 10 ^ suc k

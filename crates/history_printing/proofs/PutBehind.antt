@@ -13,7 +13,7 @@ use native.Mathlib.Numerals.{add-one}
 use lib.ListN.{length, set, take, drop, length-append, length-take, length-drop, take-append-drop}
 use lib.Seq.{append-snoc, set-split}
 use Rattle.slicing_core.proofs.Fronts.{front-put}
-use Rattle.history_lines.specs.Text.{lineEnd, space}
+use Rattle.history_numbers.specs.Text.{lineEnd, space}
 use Rattle.history_printing.specs.Printing.{decimal, fields}
 
 abbrev pub Put : List ℕ → ℕ → List ℕ → List ℕ → Type 0

@@ -9,7 +9,7 @@ use mathlib.Core.List.{List, [], _∷_, _++_}
 use Prim.Native.Nat.{ℕ, zero, suc, _+_, _/_, _%_}
 use lib.Dec.{ltb}
 use Rattle.slicing.specs.Runs.{Interval}
-use Rattle.history_lines.specs.Text.{lineEnd, space, zeroDigit}
+use Rattle.history_numbers.specs.Text.{lineEnd, space, zeroDigit}
 
 -- at most k digits
 abbrev pub digits : ℕ → ℕ → List ℕ

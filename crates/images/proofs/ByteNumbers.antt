@@ -13,7 +13,7 @@ use lib.Arith.{digits-lt}
 use lib.ListN.{length, take, drop}
 use lib.Pow.{pow-add, high, low, field, mod-pow-add, mod-mod-pow}
 use lib.Seq.{drop-cons, getD-drop, getD-append-add}
-use Rattle.sha1.specs.Fips180.{bytes}
+use Rattle.sha1_blocks.specs.Fips180.{bytes}
 use Rattle.slicing_core.specs.Rows.{at}
 use Rattle.images.specs.Format.{numberAt}
 

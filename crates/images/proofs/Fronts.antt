@@ -12,7 +12,7 @@ use native.Mathlib.Nat.{zero-add, add-zero}
 use native.Mathlib.Numerals.{add-one}
 use lib.ListN.{length, set, take, drop, length-append, length-take, take-append-drop}
 use lib.Seq.{append-snoc, set-split}
-use Rattle.sha1.specs.Fips180.{bytes}
+use Rattle.sha1_blocks.specs.Fips180.{bytes}
 use Rattle.sha1.proofs.TwelveBytes.{bytes-append}
 use Rattle.slicing_core.specs.Rows.{at}
 use Rattle.slicing_core.proofs.Fronts.{front-put}

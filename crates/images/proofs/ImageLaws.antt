@@ -15,7 +15,7 @@ use lib.Dec.{eqb, leb, ltb}
 use lib.ListN.{length, take, drop, length-append}
 use lib.Seq.{take-all}
 use borrow.Author.Tests.{eqb-true, eq-eqb, ne-eqb, leb-true, le-leb, ltb-true, ltb-false}
-use Rattle.sha1.specs.Fips180.{bytes}
+use Rattle.sha1_blocks.specs.Fips180.{bytes}
 use Rattle.slicing.specs.Changes.{State}
 use Rattle.slicing.specs.Devices.{Device, ids, Rising}
 use Rattle.slicing.specs.Runs.{Run, _of_, one, total, owned, count, Coalesced}
@@ -23,9 +23,9 @@ use Rattle.slicing.specs.Validity.{Valid}
 use Rattle.slicing.proofs.ShareRule.{shareOf-absent}
 use Rattle.slicing_core.specs.Rows.{at, deviceRows, tableRows}
 use Rattle.slicing_core.proofs.Rows.{length-deviceRows}
-use Rattle.placement.specs.Pools.{capacitiesOf, startsOf, ownersOf}
-use Rattle.placement.proofs.PaddedRows.{length-startsOf, length-ownersOf}
-use Rattle.placement.proofs.PoolLaws.{deviceRows-of, tableRows-of, length-tableRows, length-ids, length-capacitiesOf}
+use Rattle.pools.specs.Pools.{capacitiesOf, startsOf, ownersOf}
+use Rattle.pools.proofs.PaddedRows.{length-startsOf, length-ownersOf}
+use Rattle.pools.proofs.PoolLaws.{deviceRows-of, tableRows-of, length-tableRows, length-ids, length-capacitiesOf}
 use Rattle.images.specs.Format.{mark, version, head, deviceBytes, intervalBytes, imageOf, numberAt, rangeIn, limitIn, devicesIn, intervalsIn, column, idsIn, capacitiesIn, startsIn, ownersIn, stateIn, marked, Image}
 use Rattle.images.specs.RowBytes.{pairBytes}
 use Rattle.images.proofs.ByteNumbers.{Bytes, bytes-numberAt, numberAt-bytes}

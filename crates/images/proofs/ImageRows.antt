@@ -10,12 +10,12 @@ use native.Mathlib.Omega.{arith}
 use lib.Dec.{eqb}
 use lib.ListN.{length, take, drop, length-append}
 use lib.Seq.{drop-cons, take-add, drop-drop, take-all}
-use Rattle.sha1.specs.Fips180.{bytes}
+use Rattle.sha1_blocks.specs.Fips180.{bytes}
 use Rattle.slicing.specs.Devices.{Device, ids}
 use Rattle.slicing.specs.Runs.{Run, _of_, total, Coalesced}
 use Rattle.slicing_core.specs.Rows.{at, deviceRows, tableRows}
-use Rattle.placement.specs.Pools.{capacitiesOf, startsOf, ownersOf}
-use Rattle.placement.proofs.PoolLaws.{total-tableRows}
+use Rattle.pools.specs.Pools.{capacitiesOf, startsOf, ownersOf}
+use Rattle.pools.proofs.PoolLaws.{total-tableRows}
 use Rattle.images.specs.Format.{deviceBytes, intervalBytes, numberAt, column}
 use Rattle.images.specs.RowBytes.{pairBytes}
 use Rattle.images.proofs.ByteNumbers.{Bytes, bytes-numberAt, numberAt-bytes}

@@ -6,7 +6,7 @@ use mathlib.Core.List.{List, [], _∷_, _++_}
 use Prim.Native.Nat.{ℕ, zero, suc, _+_, _*_}
 use native.Mathlib.Omega.{arith}
 use lib.ListN.{length, length-append}
-use Rattle.sha1.specs.Fips180.{bytes}
+use Rattle.sha1_blocks.specs.Fips180.{bytes}
 use Rattle.slicing.specs.Changes.{State}
 use Rattle.slicing.specs.Devices.{Device}
 use Rattle.slicing.specs.Runs.{Run, _of_}

@@ -8,3 +8,4 @@ pub mod ReadAnswers
 pub mod Fronts
 pub mod WrittenImages
 pub mod RoundTrips
+pub mod OnImages

@@ -1,14 +1,14 @@
 -- The pool that the bytes of an image give, and the state that they give.
 --
--- poolIn: described-pool (a pool is it, by its parts), stateOf-poolIn (it holds the state)
+-- poolIn: described-pool (a pool is it, by its parts), stateOf-poolIn (it holds the state), poolIn-cleared (its unused places are 0)
 -- a valid state: devices-few, intervals-few, poolIn-valid, valid-poolIn, poolOf-stateIn (the state's pool is it)
 use mathlib.Core.Path.{_≡_, refl, sym, ap, _∙_, subst}
 use mathlib.Core.List.{List, [], _∷_, _++_}
 use Prim.Native.Nat.{ℕ, zero, suc, _+_, _*_, _-_, _≤_}
 use native.Mathlib.Omega.{arith}
 use lib.ListN.{length, replicate, length-append, length-replicate}
-use Rattle.placement.specs.Pools.{padded, stateOf, poolOf, ValidPool, Zeros}
-use Rattle.placement.proofs.PoolLaws.{length-tableRows, zeros-padded, poolOf-parts}
+use Rattle.pools.specs.Pools.{padded, stateOf, poolOf, ValidPool, Zeros, Cleared}
+use Rattle.pools.proofs.PoolLaws.{length-tableRows, zeros-padded, poolOf-parts}
 use Rattle.slicing.specs.Validity.{Valid}
 use Rattle.slicing_core.specs.Rows.{at, deviceRows, tableRows}
 use Rattle.slicing_core.proofs.Rows.{length-deviceRows, at-zeros}
@@ -94,6 +94,17 @@ module _ (xs : List ℕ) where
   cleared : (N k i n : ℕ) → Zeros (padded N (column xs k i n)) n
   cleared N k i n = subst (λ (m : ℕ). Zeros (padded N (column xs k i n)) m) (length-column xs k i n) (zeros-padded N (column xs k i n))
 
+  pub poolIn-cleared : Cleared (poolIn xs)
+  unfolding poolIn
+  poolIn-cleared =
+      let n = devicesIn xs in
+      let q = intervalsIn xs in record {
+        noIds = cleared 256 2 headSize n;
+        noCapacities = cleared 256 4 (headSize + 2) n;
+        noStarts = cleared 4096 4 (headSize + 6 * n) q;
+        noOwners = cleared 4096 2 (headSize + 6 * n + 4) q;
+      }
+
   -- ---- bytes that give a valid state
 
   module _ (v : Valid (stateIn xs)) where
@@ -128,7 +139,7 @@ module _ (xs : List ℕ) where
         let q = intervalsIn xs in
         poolOf-parts (poolIn xs) (size 256 2 headSize n devices-few) (size 256 4 (headSize + 2) n devices-few)
         (size 4096 4 (headSize + 6 * n) q intervals-few) (size 4096 2 (headSize + 6 * n + 4) q intervals-few) devices-few intervals-few
-        (cleared 256 2 headSize n) (cleared 256 4 (headSize + 2) n) (cleared 4096 4 (headSize + 6 * n) q) (cleared 4096 2 (headSize + 6 * n + 4) q)
+        (poolIn-cleared .noIds) (poolIn-cleared .noCapacities) (poolIn-cleared .noStarts) (poolIn-cleared .noOwners)
         (held .coalesced) (λ h. held .covers (some h))
 
     pub poolIn-valid : ValidPool (poolIn xs)

@@ -2,20 +2,20 @@
 --
 -- marks: marked-size (marked bytes hold a head)
 -- faults: many-devices, many-intervals, another-size, not-valid (the bytes are not sound), sound (they are)
--- the answer: read-whole
+-- the answer: read-whole, not-opened (nothing is asked of the opened pool of a refused read)
 use mathlib.Core.Path.{_≡_, refl, sym, ap, _∙_, subst}
 use mathlib.Core.Bool.{Bool, true, false}
 use mathlib.Core.List.{List}
-use Prim.Native.Nat.{ℕ, _+_, _*_, _≤_, _<_}
+use Prim.Native.Nat.{ℕ, suc, _+_, _*_, _≤_, _<_}
 use native.Mathlib.Omega.{arith}
 use lib.Dec.{leb}
 use lib.ListN.{length}
 use borrow.Author.Tests.{leb-true}
-use Rattle.placement.specs.Pools.{ValidPool}
-use Rattle.placement.specs.declared.Pool.{Pool}
-use Rattle.placement.specs.declared.PoolAnswer.{PoolAnswer}
+use Rattle.pools.specs.Pools.{ValidPool}
+use Rattle.pools.specs.declared.Pool.{Pool}
+use Rattle.pools.specs.declared.PoolAnswer.{PoolAnswer}
 use Rattle.images.specs.Format.{version, headSize, versionIn, devicesIn, intervalsIn, marked, Sound}
-use Rattle.images.specs.Promises.{ReadAs, accepted}
+use Rattle.images.specs.Promises.{ReadAs, accepted, refusal}
 use Rattle.images.specs.RowBytes.{poolIn}
 use Rattle.images.proofs.PoolsRead.{devices-few, intervals-few, poolIn-valid, valid-poolIn, poolOf-stateIn}
 
@@ -53,3 +53,6 @@ pub read-whole : (xs : List ℕ) → marked xs ≡ true → versionIn xs ≡ ver
 read-whole xs m v s p e =
     accepted (record { first = m; second = v; sound = s })
     (ap {B = PoolAnswer} (λ z. record { refusal = 0; pool = z }) (e ∙ sym (poolOf-stateIn xs (s .valid))))
+
+pub not-opened : {A : Type 0} (n : ℕ) {a : PoolAnswer} → a ≡ refusal (suc n) → a .refusal ≡ 0 → A
+not-opened n e z = absurd (omega (arith, z, ap (λ (r : PoolAnswer). r .refusal) e))

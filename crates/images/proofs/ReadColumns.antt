@@ -11,7 +11,7 @@ use native.Mathlib.Nat.{add-zero, add-assoc}
 use native.Mathlib.Numerals.{add-one, unary-clauses}
 use lib.ListN.{length, set, take, drop, replicate, length-drop, length-set}
 use lib.Seq.{take-all, drop-cons, set-at, append-snoc}
-use Rattle.placement.specs.Pools.{padded}
+use Rattle.pools.specs.Pools.{padded}
 use Rattle.slicing_core.specs.Rows.{at}
 use Rattle.images.specs.Format.{numberAt, column}
 use Rattle.images.proofs.ByteNumbers.{numberAt-drop}

@@ -18,10 +18,10 @@ use lib.Dec.{ltb}
 use lib.ListN.{length, take, drop, drop-of-length-le}
 use lib.Seq.{take-at}
 use borrow.Author.Tests.{le-ltb}
-use Rattle.placement.specs.Pools.{stateOf, poolOf, ValidPool}
-use Rattle.placement.specs.declared.Pool.{Pool}
-use Rattle.placement.specs.declared.PoolAnswer.{PoolAnswer}
-use Rattle.placement.proofs.PoolLaws.{stateOf-poolOf, validPool-poolOf}
+use Rattle.pools.specs.Pools.{stateOf, poolOf, ValidPool}
+use Rattle.pools.specs.declared.Pool.{Pool}
+use Rattle.pools.specs.declared.PoolAnswer.{PoolAnswer}
+use Rattle.pools.proofs.PoolLaws.{stateOf-poolOf, validPool-poolOf}
 use Rattle.images.specs.Format.{imageOf, stateIn, Image}
 use Rattle.images.specs.Promises.{refusal, ReadAs, unmarked, versioned, faulty, accepted, WrittenAs}
 use Rattle.images.specs.declared.WriteAnswer.{WriteAnswer}

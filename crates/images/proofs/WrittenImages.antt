@@ -1,8 +1,9 @@
--- What `put_image` and `write` need: a pool's image from its arrays, and the parts of a buffer.
+-- What `put_image`, `store` and `write` need: a pool's image from its arrays, and the parts of a buffer.
 --
 -- imageOf-pool, image-size, image-put
 -- writeReply: writeReply-answer
--- WrittenAs: written-answer (what the answer is says what its reply is), written-invalid, written-short, written-whole
+-- the answer and the buffer: stored-short, stored-whole
+-- WrittenAs: written-answer (what the answer is says what its reply is), written-valid, written-invalid
 use mathlib.Core.Path.{_≡_, refl, ap, _∙_}
 use mathlib.Core.Bool.{Bool, true, false, cond}
 use mathlib.Core.List.{List, _++_}
@@ -11,10 +12,10 @@ use native.Mathlib.Omega.{arith}
 use lib.Dec.{ltb}
 use lib.ListN.{length, take, drop, length-append}
 use borrow.Author.Tests.{lt-ltb, le-ltb}
-use Rattle.placement.specs.Pools.{stateOf, ValidPool}
-use Rattle.placement.specs.declared.Pool.{Pool}
-use Rattle.placement.proofs.PoolLaws.{length-tableRows}
-use Rattle.placement.proofs.ValidParts.{valid-coalesced, valid-covers}
+use Rattle.pools.specs.Pools.{stateOf, ValidPool}
+use Rattle.pools.specs.declared.Pool.{Pool}
+use Rattle.pools.proofs.PoolLaws.{length-tableRows}
+use Rattle.pools.proofs.ValidParts.{valid-coalesced, valid-covers}
 use Rattle.slicing.specs.Replies.{replied, declined}
 use Rattle.slicing_core.proofs.Fronts.{part-put}
 use Rattle.slicing_core.proofs.Rows.{length-deviceRows}
@@ -91,16 +92,22 @@ module _ (p : Pool) (v : ValidPool p) where
       part-put b0 (first ++ second) third b2 i (headSize + 6 * n) (6 * q) l h g
       ∙ rw (image-size, imageOf-pool)
 
-  pub written-short : (before : List ℕ) → length before < headSize + 6 * n + 6 * q → WrittenAs p before (Refused 17) before
-  written-short before h =
-      let e = lt-ltb (length before) (length (imageOf (stateOf p))) (omega (arith, image-size)) in
-      written-answer p before (Refused 17) before (λ k. (rw e, rw e)) (λ k. absurd (k v))
+  abbrev Stored : List ℕ → WriteAnswer → List ℕ → Type 0
+  Stored before r after = (r ≡ writeAnswer (stateOf p) (length before)) × (after ≡ bufferAfter (stateOf p) before)
 
-  pub written-whole : (before after : List ℕ) → headSize + 6 * n + 6 * q ≤ length before
-      → after ≡ imageOf (stateOf p) ++ drop (length (imageOf (stateOf p))) before → WrittenAs p before (Written (headSize + 6 * n + 6 * q)) after
-  written-whole before after h a =
+  pub stored-short : (before : List ℕ) → length before < headSize + 6 * n + 6 * q → Stored before (Refused 17) before
+  stored-short before h =
+      let e = lt-ltb (length before) (length (imageOf (stateOf p))) (omega (arith, image-size)) in
+      (rw e, rw e)
+
+  pub stored-whole : (before after : List ℕ) → headSize + 6 * n + 6 * q ≤ length before
+      → after ≡ imageOf (stateOf p) ++ drop (length (imageOf (stateOf p))) before → Stored before (Written (headSize + 6 * n + 6 * q)) after
+  stored-whole before after h a =
       let e = le-ltb (length before) (length (imageOf (stateOf p))) (omega (arith, image-size)) in
-      written-answer p before (Written (headSize + 6 * n + 6 * q)) after (λ k. (rw (e, image-size), rw e a)) (λ k. absurd (k v))
+      (rw (e, image-size), rw e a)
+
+  pub written-valid : (before : List ℕ) (r : WriteAnswer) (after : List ℕ) → Stored before r after → WrittenAs p before r after
+  written-valid before r after h = written-answer p before r after (λ k. h) (λ k. absurd (k v))
 
 pub written-invalid : (p : Pool) → (ValidPool p → ⊥) → (before : List ℕ) → WrittenAs p before (Refused 2) before
 written-invalid p h before = written-answer p before (Refused 2) before (λ k. absurd (h k)) (λ k. (refl, refl))

@@ -13,7 +13,7 @@ use mathlib.Core.List.{List, [], _∷_, _++_}
 use Prim.Native.Nat.{ℕ, zero, suc, _+_, _*_, _^_}
 use lib.Dec.{eqb, leb}
 use lib.ListN.{length}
-use Rattle.sha1.specs.Fips180.{bytes}
+use Rattle.sha1_blocks.specs.Fips180.{bytes}
 use Rattle.slicing.specs.Changes.{State}
 use Rattle.slicing.specs.Devices.{Device}
 use Rattle.slicing.specs.Runs.{Run, _of_}

@@ -1,3 +1,4 @@
 pub mod Format
 pub mod RowBytes
 pub mod Promises
+pub mod OnImages

@@ -1,6 +1,7 @@
 -- What the offered calls on images promise.
 --
 --   refusal n                 the answer of a refused read
+--   answerOf r                the answer in what a read leaves
 --   ReadAs xs r               r answers the read of the bytes xs: one of four cases, each with the whole answer
 --   writeReply r              document 01's number and value of the answer r of a write
 --   writeAnswer, bufferAfter  the answer of a write of a state into a buffer, and the buffer afterwards
@@ -11,18 +12,22 @@ use mathlib.Core.List.{List, _++_}
 use Prim.Native.Nat.{ℕ}
 use lib.Dec.{ltb}
 use lib.ListN.{length, drop}
-use Rattle.placement.specs.Pools.{stateOf, poolOf, ValidPool}
-use Rattle.placement.specs.declared.Pool.{Pool}
-use Rattle.placement.specs.declared.PoolAnswer.{PoolAnswer}
+use Rattle.pools.specs.Pools.{stateOf, poolOf, ValidPool}
+use Rattle.pools.specs.declared.Pool.{Pool}
+use Rattle.pools.specs.declared.PoolAnswer.{PoolAnswer}
 use Rattle.slicing.specs.Changes.{State, fresh}
 use Rattle.slicing.specs.Replies.{Reply, replied, declined}
 use Rattle.images.specs.Format.{version, imageOf, versionIn, stateIn, marked, Sound, Image}
+use Rattle.images.specs.declared.reader.ReadAnswer.{ReadAnswer}
 use Rattle.images.specs.declared.WriteAnswer.{WriteAnswer}
 use Rattle.images.specs.declared.WriteAnswer.the-variants.{Written, Refused}
 
 -- 'a refused call that makes a pool, as an image read does, gives a fresh one with R = 1 and M = 1'
 abbrev pub refusal : ℕ → PoolAnswer
 refusal n = record { refusal = n; pool = poolOf (fresh 1 1) }
+
+abbrev pub answerOf : ReadAnswer → PoolAnswer
+answerOf r = record { refusal = r .refusal; pool = r .pool }
 
 -- 'Checks run down the table; the first that applies counts': 14, 15, 16, else the pool
 pub data ReadAs (xs : List ℕ) (r : PoolAnswer) : Type 0 where

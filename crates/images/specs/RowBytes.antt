@@ -7,9 +7,9 @@
 use mathlib.Core.Bool.{Bool, true, false}
 use mathlib.Core.List.{List, [], _++_}
 use Prim.Native.Nat.{ℕ, zero, suc}
-use Rattle.placement.specs.Pools.{padded}
-use Rattle.placement.specs.declared.Pool.{Pool}
-use Rattle.sha1.specs.Fips180.{bytes}
+use Rattle.pools.specs.Pools.{padded}
+use Rattle.pools.specs.declared.Pool.{Pool}
+use Rattle.sha1_blocks.specs.Fips180.{bytes}
 use Rattle.slicing_core.specs.Rows.{at}
 use Rattle.images.specs.Format.{rangeIn, limitIn, devicesIn, intervalsIn, idsIn, capacitiesIn, startsIn, ownersIn}
 

@@ -3,7 +3,7 @@ ghost use mathlib.Core.Path.{_≡_};
 ghost use mathlib.Core.List.{_++_};
 ghost use Prim.Native.Nat.{_+_, _≤_, _<_, _^_};
 ghost use lib.ListN.{length, take, drop};
-ghost use Rattle.sha1.specs.Fips180.{bytes};
+ghost use Rattle.sha1_blocks.specs.Fips180.{bytes};
 ghost use Rattle.images.specs.Format.{numberAt};
 
 // A byte that was read, as a number.

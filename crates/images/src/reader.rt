@@ -8,16 +8,29 @@ use crate::numbers::number2;
 use crate::numbers::number8;
 use crate::rows::device_rows;
 use crate::rows::interval_rows;
-use placement::Pool;
-use placement::PoolAnswer;
-use placement::fresh;
-use placement::valid::valid;
+use opened::Opened;
+use opened::making::without_devices;
+use pools::Pool;
+use pools::PoolAnswer;
+use pools::fresh;
+use pools::open_cleared;
+use six_steps::runs::ROOM;
+use six_steps::runs::blank;
+use slicing::FAULTY;
+use slicing::MAX_DEVICES;
+use slicing::MAX_INTERVALS;
+use slicing::OTHER_VERSION;
+use slicing::UNMARKED;
 ghost use mathlib.Core.Path.{_≡_};
 ghost use Prim.Native.Nat.{_+_, _*_, _≤_};
 ghost use lib.ListN.{length};
+ghost use Rattle.six_steps.specs.Words.{room};
+ghost use Rattle.opened.specs.OpenPools as OpenPools;
+ghost use Rattle.opened.specs.OpenPools.{Open};
+ghost use Rattle.pools.specs.Pools.{stateOf};
 ghost use Rattle.images.specs.Format as Format;
 ghost use Rattle.images.specs.Format.{headSize, devicesIn, intervalsIn};
-ghost use Rattle.images.specs.Promises.{ReadAs, refusal};
+ghost use Rattle.images.specs.Promises.{ReadAs, refusal, answerOf};
 ghost use Rattle.images.specs.RowBytes.{poolIn};
 
 // Whether there is room for a head, and the mark.
@@ -58,46 +71,73 @@ fn described(image: &[u8], n: usize, q: usize) -> Pool
     }
 }
 
-// The answer of a refused read: a fresh pool with R = 1 and M = 1.
-fn refused(number: u32) -> PoolAnswer
-    ensures { λ r. ⌜ r ≡ refusal number ⌝ }
+// What a read leaves: its answer, and, where it was not refused, the pool opened.
+pub struct ReadAnswer {
+    pub refusal: u32,
+    pub pool: Pool,
+    pub opened: Opened,
+}
+
+// A refused read: a fresh pool with R = 1 and M = 1.
+fn refused(number: u32) -> ReadAnswer
+    ensures { λ r. ⌜ answerOf r ≡ refusal number ⌝ }
 {
-    let answer = fresh(1, 1);
-    let pool = answer.pool;
-    PoolAnswer {
+    let made = fresh(1, 1);
+    let pool = made.pool;
+    ReadAnswer {
         refusal: number,
         pool: pool,
+        opened: without_devices(1, 1),
     }
 }
 
-// The pool that an image describes. 14 under 19 bytes or for another mark, 15 for another version, 16
-// for any other fault; then the pool has R = 1 and M = 1.
-pub fn read(image: &[u8]) -> PoolAnswer
-    ensures { λ r. ⌜ ReadAs (now (image .entry)) r ⌝ }
+// The pool that an image describes, opened, with its table in an array. 14 under 19 bytes or for another
+// mark, 15 for another version, 16 for any other fault; then the pool has R = 1 and M = 1.
+pub fn read_open(image: &[u8], table: &mut [u64; ROOM]) -> ReadAnswer
+    requires { ⌜ length (now table) ≡ room ⌝ }
+    ensures read { λ r. ⌜ ReadAs (now (image .entry)) (answerOf r) ⌝ }
+    ensures opened { λ r. ⌜ (r .refusal ≡ 0 → Open (r .opened) (now (table .exit)) × (OpenPools.stateIn (r .opened) (now (table .exit)) ≡ stateOf (r .pool))) ⌝ }
+    ensures { λ r. ⌜ length (now (table .exit)) ≡ room ⌝ }
 {
     if !marked(image) {
-        return refused(14);
+        return refused(UNMARKED);
     }
     if number2(image, 3) != VERSION {
-        return refused(15);
+        return refused(OTHER_VERSION);
     }
     let n = number2(image, 15) as usize;
     let q = number2(image, 17) as usize;
-    if n > 256 {
-        return refused(16);
+    if n > MAX_DEVICES {
+        return refused(FAULTY);
     }
-    if q > 4096 {
-        return refused(16);
+    if q > MAX_INTERVALS {
+        return refused(FAULTY);
     }
     if image.len() != HEAD + ROW * n + ROW * q {
-        return refused(16);
+        return refused(FAULTY);
     }
     let pool = described(image, n, q);
-    if !valid(pool) {
-        return refused(16);
+    let checked = open_cleared(pool, table);
+    if !checked.valid {
+        return refused(FAULTY);
     }
-    PoolAnswer {
+    let opened = checked.opened;
+    ReadAnswer {
         refusal: 0,
+        pool: pool,
+        opened: opened,
+    }
+}
+
+// The pool that an image describes; refused as by `read_open`.
+pub fn read(image: &[u8]) -> PoolAnswer
+    ensures { λ r. ⌜ ReadAs (now (image .entry)) r ⌝ }
+{
+    let mut table = blank();
+    let made = read_open(image, &mut table);
+    let pool = made.pool;
+    PoolAnswer {
+        refusal: made.refusal,
         pool: pool,
     }
 }

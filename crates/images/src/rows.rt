@@ -4,24 +4,26 @@ use crate::numbers::number2;
 use crate::numbers::number4;
 use crate::numbers::put2;
 use crate::numbers::put4;
+use slicing::MAX_DEVICES;
+use slicing::MAX_INTERVALS;
 ghost use mathlib.Core.Path.{_≡_};
 ghost use mathlib.Core.List.{_++_};
 ghost use Prim.Native.Nat.{_+_, _*_, _≤_};
 ghost use lib.ListN.{length, take, drop};
-ghost use Rattle.placement.specs.Pools.{padded};
+ghost use Rattle.pools.specs.Pools.{padded};
 ghost use Rattle.images.specs.Format.{column};
 ghost use Rattle.images.specs.RowBytes.{pairBytes, rowBytes, rowsBytes};
 
 // The columns of the device rows, and zeros.
 pub struct DeviceColumns {
-    pub ids: [u16; 256],
-    pub capacities: [u32; 256],
+    pub ids: [u16; MAX_DEVICES],
+    pub capacities: [u32; MAX_DEVICES],
 }
 
 // The columns of the interval rows, and zeros.
 pub struct IntervalColumns {
-    pub starts: [u32; 4096],
-    pub owners: [u16; 4096],
+    pub starts: [u32; MAX_INTERVALS],
+    pub owners: [u16; MAX_INTERVALS],
 }
 
 // Reads n rows into two arrays. In each row a number in two bytes begins at place short, one in four
@@ -53,8 +55,8 @@ pub fn device_rows(rows: &[u8], n: usize) -> DeviceColumns
     ensures ids { λ r. ⌜ r .ids ≡ padded 256 (column (now (rows .entry)) 2 0 n) ⌝ }
     ensures capacities { λ r. ⌜ r .capacities ≡ padded 256 (column (now (rows .entry)) 4 2 n) ⌝ }
 {
-    let mut ids = [0u16; 256];
-    let mut capacities = [0u32; 256];
+    let mut ids = [0u16; MAX_DEVICES];
+    let mut capacities = [0u32; MAX_DEVICES];
     read_columns(rows, n, &mut ids, 0, &mut capacities, 2);
     DeviceColumns {
         ids: ids,
@@ -68,8 +70,8 @@ pub fn interval_rows(rows: &[u8], q: usize) -> IntervalColumns
     ensures starts { λ r. ⌜ r .starts ≡ padded 4096 (column (now (rows .entry)) 4 0 q) ⌝ }
     ensures owners { λ r. ⌜ r .owners ≡ padded 4096 (column (now (rows .entry)) 2 4 q) ⌝ }
 {
-    let mut starts = [0u32; 4096];
-    let mut owners = [0u16; 4096];
+    let mut starts = [0u32; MAX_INTERVALS];
+    let mut owners = [0u16; MAX_INTERVALS];
     read_columns(rows, q, &mut owners, 4, &mut starts, 0);
     IntervalColumns {
         starts: starts,
@@ -104,7 +106,12 @@ fn put_columns(rows: &mut [u8], n: usize, shorts: &[u16], longs: &[u32], leading
 }
 
 // Writes n device rows.
-pub fn put_devices(rows: &mut [u8], ids: &[u16; 256], capacities: &[u32; 256], n: usize)
+pub fn put_devices(
+    rows: &mut [u8],
+    ids: &[u16; MAX_DEVICES],
+    capacities: &[u32; MAX_DEVICES],
+    n: usize,
+)
     requires { ⌜ (n ≤ 256) × (6 * n ≤ length (now rows)) ⌝ }
     ensures { λ r. ⌜ now (rows .exit) ≡ pairBytes 2 4 (now (ids .entry)) (now (capacities .entry)) 0 n ++ drop (6 * n) (now (rows .entry)) ⌝ }
 {
@@ -112,7 +119,12 @@ pub fn put_devices(rows: &mut [u8], ids: &[u16; 256], capacities: &[u32; 256], n
 }
 
 // Writes q interval rows.
-pub fn put_intervals(rows: &mut [u8], starts: &[u32; 4096], owners: &[u16; 4096], q: usize)
+pub fn put_intervals(
+    rows: &mut [u8],
+    starts: &[u32; MAX_INTERVALS],
+    owners: &[u16; MAX_INTERVALS],
+    q: usize,
+)
     requires { ⌜ (q ≤ 4096) × (6 * q ≤ length (now rows)) ⌝ }
     ensures { λ r. ⌜ now (rows .exit) ≡ pairBytes 4 2 (now (starts .entry)) (now (owners .entry)) 0 q ++ drop (6 * q) (now (rows .entry)) ⌝ }
 {

@@ -9,15 +9,17 @@ use crate::numbers::put2;
 use crate::numbers::put8;
 use crate::rows::put_devices;
 use crate::rows::put_intervals;
-use placement::Pool;
-use placement::valid::valid;
+use pools::Pool;
+use pools::valid;
+use slicing::OUTSIDE;
+use slicing::SHORT_BUFFER;
 ghost use mathlib.Core.Path.{_≡_};
 ghost use mathlib.Core.List.{_++_};
 ghost use Prim.Native.Nat.{_+_, _*_, _≤_, _<_, _^_};
 ghost use lib.ListN.{length, drop};
-ghost use Rattle.placement.specs.Pools.{stateOf, ValidPool};
+ghost use Rattle.pools.specs.Pools.{stateOf, ValidPool};
 ghost use Rattle.images.specs.Format.{headSize, head, imageOf};
-ghost use Rattle.images.specs.Promises.{WrittenAs};
+ghost use Rattle.images.specs.Promises.{writeAnswer, bufferAfter, WrittenAs};
 
 // Writes the head of an image.
 fn put_head(buffer: &mut [u8], range: u64, limit: u64, n: u64, q: u64)
@@ -56,18 +58,28 @@ fn put_image(pool: Pool, buffer: &mut [u8])
     put_intervals(&mut buffer[end..], &starts, &owners, q);
 }
 
+// Writes the image of a valid pool, and answers its length. 17 where the buffer is too short. The bytes
+// past the image stay.
+pub fn store(pool: Pool, buffer: &mut [u8]) -> WriteAnswer
+    requires { ⌜ ValidPool pool ⌝ }
+    ensures answer { λ r. ⌜ r ≡ writeAnswer (stateOf pool) (length (now (buffer .entry))) ⌝ }
+    ensures buffer { λ r. ⌜ now (buffer .exit) ≡ bufferAfter (stateOf pool) (now (buffer .entry)) ⌝ }
+{
+    let size = HEAD + ROW * pool.devices + ROW * pool.intervals;
+    if buffer.len() < size {
+        return WriteAnswer::Refused(SHORT_BUFFER);
+    }
+    put_image(pool, &mut *buffer);
+    WriteAnswer::Written(size)
+}
+
 // Writes the image of a pool, and answers its length. 2 for a pool that is not valid, 17 where the
 // buffer is too short. The bytes past the image stay.
 pub fn write(pool: Pool, buffer: &mut [u8]) -> WriteAnswer
     ensures { λ r. ⌜ WrittenAs pool (now (buffer .entry)) r (now (buffer .exit)) ⌝ }
 {
     if !valid(pool) {
-        return WriteAnswer::Refused(2);
+        return WriteAnswer::Refused(OUTSIDE);
     }
-    let size = HEAD + ROW * pool.devices + ROW * pool.intervals;
-    if buffer.len() < size {
-        return WriteAnswer::Refused(17);
-    }
-    put_image(pool, &mut *buffer);
-    WriteAnswer::Written(size)
+    store(pool, &mut *buffer)
 }

@@ -1,5 +1,5 @@
 pub mod HalvingSteps
 pub mod Halves
 pub mod PointLaws
-pub mod ProbeWalks
+pub mod ProbeSteps
 pub mod Choosing

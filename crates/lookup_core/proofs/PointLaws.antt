@@ -6,8 +6,8 @@ use Prim.Native.Nat.{ℕ, zero, suc, _*_, _≤_, _<_}
 use native.Mathlib.Omega.{arith}
 use native.Mathlib.Nat.{div-add-mod, mul-lt-mul-of-pos-right, lt-of-mul-lt-mul-left}
 use lib.ListN.{getD}
-use Rattle.sha1.specs.Fips180.{bytes, compress, digest, pad, N}
-use Rattle.sha1.specs.Fips180 as Fips
+use Rattle.sha1_blocks.specs.Fips180.{bytes, compress, digest, pad, N}
+use Rattle.sha1_blocks.specs.Fips180 as Fips
 use Rattle.lookup_core.specs.Probes.{scaled, pointOf}
 
 H-word : (p : List ℕ) (i : ℕ) → Fips.H p i .a < 4294967296

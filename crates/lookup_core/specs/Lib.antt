@@ -1,3 +1,3 @@
 pub mod Halving
 pub mod Probes
-pub mod Walks
+pub mod Probing

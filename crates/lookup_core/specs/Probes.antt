@@ -10,7 +10,7 @@ use mathlib.Core.List.{List, [], _∷_, _++_}
 use Prim.Native.Nat.{ℕ, zero, suc, _*_, _/_}
 use lib.Dec.{eqb, leb}
 use lib.ListN.{length, getD}
-use Rattle.sha1.specs.Fips180.{bytes, digest}
+use Rattle.sha1_blocks.specs.Fips180.{bytes, digest}
 
 -- 'Try t of a block hashes twelve bytes: the block number in 8 and t in 4, highest byte first. With h the first 32-bit word of
 -- the digest, the point is h × R divided by 4,294,967,296, rounded down.'

@@ -10,8 +10,8 @@ use lib.Dec.{eqb, ltb}
 use lib.ListN.{length, replicate}
 use borrow.Author.Tests.{lt-ltb, le-ltb, eq-eqb, ne-eqb}
 use Rattle.lookup_core.specs.Probes.{choose, maxProbes}
-use Rattle.lookup_core.specs.Walks.{ownerOf, Walked}
-use Rattle.lookup_core.specs.declared.Walk.{Walk}
+use Rattle.lookup_core.specs.Probing.{ownerOf, ProbesAnswered}
+use Rattle.lookup_core.specs.declared.ProbeAnswer.{ProbeAnswer}
 use Rattle.slicing.specs.Limits.{maxRange, outside}
 use Rattle.lookups.specs.Copies.{Outcome, copiesOf, refusal}
 use Rattle.lookups.specs.Counting.{counted}
@@ -39,19 +39,19 @@ within k l m = rw (le-ltb k 1 l, le-ltb 8 k m)
 pub refuses-ten : (o : ℕ → ℕ) (n k : ℕ) (c : Counters) (r : CopiesAnswer) → 1 ≤ k → k ≤ 8 → n ≡ 0 → Refusing 10 0 c r → Answered (copiesOf o n k) c r
 refuses-ten o n k c r l m z h = refuses (copiesOf o n k) 10 0 c r (rw (within k l m, eq-eqb n 0 z)) refl h
 
-pub refuses-twelve : (s o : List ℕ) (q n R block k : ℕ) (c : Counters) (w : Walk) (r : CopiesAnswer) → 1 ≤ k → k ≤ 8 → ¬ (n ≡ 0)
-    → Walked s o q (min R maxRange) block k w → w .found < k → Refusing 12 256 c r → CopiedIn s o q n R block k c r
+pub refuses-twelve : (s o : List ℕ) (q n R block k : ℕ) (c : Counters) (w : ProbeAnswer) (r : CopiesAnswer) → 1 ≤ k → k ≤ 8 → ¬ (n ≡ 0)
+    → ProbesAnswered s o q (min R maxRange) block k w → w .found < k → Refusing 12 256 c r → CopiedIn s o q n R block k c r
 refuses-twelve s o q n R block k c w r l m z d f h =
     let v = ownerOf s o q (min R maxRange) block in
     let few : ltb (length (choose v k .owners)) k ≡ true = lt-ltb (length (choose v k .owners)) k (omega (arith, d .found)) in
     record { found = refuses (copiesOf v n k) 12 maxProbes c r (rw (within k l m, ne-eqb n 0 z, few)) refl h }
 
 -- what the call shows when it accepts
-abbrev pub Accepting : Walk → Counters → CopiesAnswer → Type 0
+abbrev pub Accepting : ProbeAnswer → Counters → CopiesAnswer → Type 0
 Accepting w c r = (r .refusal ≡ 0) × (r .owners ≡ w .owners) × (r .probes ≡ w .probes) × (r .counters ≡ counted c (w .probes))
 
-pub accepts : (s o : List ℕ) (q n R block k : ℕ) (c : Counters) (w : Walk) (r : CopiesAnswer) → 1 ≤ k → k ≤ 8 → ¬ (n ≡ 0)
-    → Walked s o q (min R maxRange) block k w → k ≤ w .found → Accepting w c r → CopiedIn s o q n R block k c r
+pub accepts : (s o : List ℕ) (q n R block k : ℕ) (c : Counters) (w : ProbeAnswer) (r : CopiesAnswer) → 1 ≤ k → k ≤ 8 → ¬ (n ≡ 0)
+    → ProbesAnswered s o q (min R maxRange) block k w → k ≤ w .found → Accepting w c r → CopiedIn s o q n R block k c r
 accepts s o q n R block k c w r l m z d f h =
     let v = ownerOf s o q (min R maxRange) block in
     let enough : ltb (length (choose v k .owners)) k ≡ false = le-ltb (length (choose v k .owners)) k (omega (arith, d .found)) in

@@ -9,8 +9,8 @@ use Prim.Native.Nat.{ℕ, _+_, _≤_, min}
 use native.Mathlib.Omega.{arith}
 use lib.Dec.{eqb}
 use borrow.Author.Tests.{eqb-true, eqb-false}
-use Rattle.placement.specs.Pools.{ValidPool}
-use Rattle.placement.specs.declared.Pool.{Pool}
+use Rattle.pools.specs.Pools.{ValidPool}
+use Rattle.pools.specs.declared.Pool.{Pool}
 use Rattle.slicing.specs.Runs.{one}
 use Rattle.lookups.specs.CounterLists.{Lookup, Kept, accepted, probesOf, left}
 use Rattle.lookups.specs.Copies.{Outcome}

@@ -39,9 +39,9 @@ use denote.Triple.End.{all}
 use denote.Triple.Entry.{Args}
 use denote.Triple.Spec.{tripleOf}
 use denote.Exit.{yes}
-use Rattle.placement.specs.declared.Pool.{Pool}
-use Rattle.placement.proofs.Pool as P
-use Rattle.placement.proofs.Pool.Laws as P′
+use Rattle.pools.specs.declared.Pool.{Pool}
+use Rattle.pools.proofs.Pool as P
+use Rattle.pools.proofs.Pool.Laws as P′
 
 -- what comes back of the loan
 abbrev Lender : Lft → ℕ → Pool → Fml

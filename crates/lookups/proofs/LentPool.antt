@@ -15,9 +15,9 @@ use denote.Memory.{partAt}
 use denote.Steps.{looks, peeks, shuts}
 use denote.Struct.Steps.{spelt}
 use denote.Struct.Laws as LL
-use Rattle.placement.specs.declared.Pool.{Pool}
-use Rattle.placement.proofs.Pool as P
-use Rattle.placement.proofs.Pool.Laws as P′
+use Rattle.pools.specs.declared.Pool.{Pool}
+use Rattle.pools.proofs.Pool as P
+use Rattle.pools.proofs.Pool.Laws as P′
 
 abbrev pub Borrowed : Lft → ℕ → ℕ → Pool → Fml
 Borrowed κ b o p = fshr-bor κ (λ s. partAt P.the-row s p b o)

@@ -12,13 +12,13 @@ use lib.Dec.{eqb, leb}
 use borrow.Author.Tests.{leb-false, eqb-false}
 use Rattle.lookup_core.specs.Halving.{ownerFound, clamped}
 use Rattle.lookup_core.specs.Probes.{pointOf}
-use Rattle.lookup_core.specs.Walks.{ownerOf}
+use Rattle.lookup_core.specs.Probing.{ownerOf}
 use Rattle.lookup_core.proofs.Halves.{ownerFound-table}
 use Rattle.lookup_core.proofs.PointLaws.{pointOf-below}
-use Rattle.placement.specs.Pools.{stateOf, ValidPool}
-use Rattle.placement.specs.declared.Pool.{Pool}
-use Rattle.placement.proofs.PoolLaws.{total-tableRows}
-use Rattle.placement.proofs.ValidParts.{valid-limited, valid-covered}
+use Rattle.pools.specs.Pools.{stateOf, ValidPool}
+use Rattle.pools.specs.declared.Pool.{Pool}
+use Rattle.pools.proofs.PoolLaws.{total-tableRows}
+use Rattle.pools.proofs.ValidParts.{valid-limited, valid-covered}
 use Rattle.slicing.specs.Limits.{maxRange}
 use Rattle.slicing.specs.Runs.{total, ownerAt, Coalesced}
 use Rattle.slicing_core.specs.Rows.{at, tableRows}

@@ -10,7 +10,7 @@ use lib.Dec.{eqb, leb}
 use Rattle.lookup_core.specs.Halving.{ownerFound, clamped}
 use Rattle.lookup_core.specs.Probes.{pointOf}
 use Rattle.slicing.specs.Replies.{replied, declined}
-use Rattle.lookups.specs.Promises.{pointReply, ownerReply, strange, Located, ownerAnswer, LookedIn}
+use Rattle.lookups.specs.Promises.{pointReply, ownerReply, probeOutside, Located, ownerAnswer, LookedIn}
 use Rattle.lookups.specs.declared.OwnerAnswer.{OwnerAnswer}
 use Rattle.lookups.specs.declared.OwnerAnswer.the-variants as OwnerAnswer
 use Rattle.lookups.specs.declared.PointAnswer.{PointAnswer}
@@ -30,8 +30,8 @@ ownerReply-answer R n x d = go (leb R x) (eqb n 0)
     go false true = refl
     go false false = refl
 
-pub located-answer : {block t R : ℕ} {r : PointAnswer} → r ≡ cond (strange t R) (Refused 2) (Point (pointOf block t R)) → Located block t R r
-located-answer {block} {t} {R} e = record { answer = e; reply = ap pointReply e ∙ pointReply-answer (strange t R) (pointOf block t R) }
+pub located-answer : {block t R : ℕ} {r : PointAnswer} → r ≡ cond (probeOutside t R) (Refused 2) (Point (pointOf block t R)) → Located block t R r
+located-answer {block} {t} {R} e = record { answer = e; reply = ap pointReply e ∙ pointReply-answer (probeOutside t R) (pointOf block t R) }
 
 pub looked-answer : {s o : List ℕ} {q n R x : ℕ} {r : OwnerAnswer} → r ≡ ownerAnswer R n x (ownerFound s o (clamped q) x) → LookedIn s o q n R x r
 looked-answer {n = n} {R = R} {x = x} e = record { answer = e; reply = ap ownerReply e ∙ ownerReply-answer R n x _ }

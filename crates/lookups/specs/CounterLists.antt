@@ -9,7 +9,7 @@ use mathlib.Core.Bool.{cond}
 use mathlib.Core.List.{List, [], _∷_}
 use Prim.Native.Nat.{ℕ, _+_}
 use lib.Dec.{eqb}
-use Rattle.placement.specs.declared.Pool.{Pool}
+use Rattle.pools.specs.declared.Pool.{Pool}
 use Rattle.slicing.specs.Runs.{one}
 use Rattle.lookups.specs.Promises.{Copied}
 use Rattle.lookups.specs.declared.CopiesAnswer.{CopiesAnswer}

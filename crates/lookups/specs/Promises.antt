@@ -11,9 +11,9 @@ use Prim.Native.Nat.{ℕ, min}
 use lib.Dec.{eqb, leb, ltb}
 use Rattle.lookup_core.specs.Halving.{ownerFound, clamped}
 use Rattle.lookup_core.specs.Probes.{pointOf}
-use Rattle.lookup_core.specs.Walks.{ownerOf}
-use Rattle.placement.specs.Pools.{stateOf, ValidPool}
-use Rattle.placement.specs.declared.Pool.{Pool}
+use Rattle.lookup_core.specs.Probing.{ownerOf}
+use Rattle.pools.specs.Pools.{stateOf, ValidPool}
+use Rattle.pools.specs.declared.Pool.{Pool}
 use Rattle.slicing.specs.Limits.{maxRange, outside}
 use Rattle.slicing.specs.Replies.{Reply, replied, declined}
 use Rattle.slicing.specs.Runs.{ownerAt}
@@ -40,12 +40,12 @@ ownerReply (Refused n) = declined n
 -- ---- the point of a probe
 
 -- 'Try t (0 to 255)', R within its limits; else 2
-abbrev pub strange : ℕ → ℕ → Bool
-strange t R = ltb 255 t || outside maxRange R
+abbrev pub probeOutside : ℕ → ℕ → Bool
+probeOutside t R = ltb 255 t || outside maxRange R
 
 pub record Located (block t R : ℕ) (r : PointAnswer) : Type 0 where
-  pub answer : r ≡ cond (strange t R) (PointAnswer.Refused 2) (PointAnswer.Point (pointOf block t R))
-  pub reply : pointReply r ≡ cond (strange t R) (declined 2) (replied (pointOf block t R))
+  pub answer : r ≡ cond (probeOutside t R) (PointAnswer.Refused 2) (PointAnswer.Point (pointOf block t R))
+  pub reply : pointReply r ≡ cond (probeOutside t R) (declined 2) (replied (pointOf block t R))
 
 -- ---- the owner of a point
 

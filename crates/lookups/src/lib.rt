@@ -2,11 +2,19 @@
 // pool decides first whether the pool is valid, and refuses any other with 2. For callers that make
 // many lookups of a pool that is known to be valid there are lookups on its lent arrays: they decide
 // nothing, take logarithmic time, and are safe for any contents.
+use lookup_core::PROBES;
 use lookup_core::owner_found;
+use lookup_core::probe_owners;
 use lookup_core::probe_point;
-use lookup_core::walk_probes;
-use placement::Pool;
-use placement::valid::valid;
+use pools::Pool;
+use pools::valid;
+use slicing::COPIES_OUTSIDE;
+use slicing::FEW_OWNERS;
+use slicing::MAX_INTERVALS;
+use slicing::MAX_RANGE;
+use slicing::NO_DEVICE;
+use slicing::OUTSIDE;
+use slicing::POINT_OUTSIDE;
 ghost use mathlib.Core.Path.{_≡_};
 ghost use Prim.Native.Nat.{_+_, min};
 ghost use lib.ListN.{replicate};
@@ -58,13 +66,13 @@ pub fn point(block: u64, probe: u64, range: u64) -> PointAnswer
     ensures { λ r. ⌜ Located block probe range r ⌝ }
 {
     if probe > 255 {
-        return PointAnswer::Refused(2);
+        return PointAnswer::Refused(OUTSIDE);
     }
     if range < 1 {
-        return PointAnswer::Refused(2);
+        return PointAnswer::Refused(OUTSIDE);
     }
-    if range > 4294967296 {
-        return PointAnswer::Refused(2);
+    if range > MAX_RANGE {
+        return PointAnswer::Refused(OUTSIDE);
     }
     PointAnswer::Point(probe_point(block, probe as u32, range))
 }
@@ -79,8 +87,8 @@ fn raised(x: u32, y: u32) -> u32
 // The owner of a point, on the lent arrays of a pool: for callers that make many lookups. 13 where the
 // point is at or above the range, then 10 where no device is present.
 pub fn owner_in<'a>(
-    starts: &'a [u32; 4096],
-    owners: &'a [u16; 4096],
+    starts: &'a [u32; MAX_INTERVALS],
+    owners: &'a [u16; MAX_INTERVALS],
     intervals: usize,
     devices: usize,
     range: u64,
@@ -89,10 +97,10 @@ pub fn owner_in<'a>(
     ensures { λ r. ⌜ LookedIn (now (starts .entry)) (now (owners .entry)) intervals devices range point r ⌝ }
 {
     if point >= range {
-        return OwnerAnswer::Refused(13);
+        return OwnerAnswer::Refused(POINT_OUTSIDE);
     }
     if devices == 0 {
-        return OwnerAnswer::Refused(10);
+        return OwnerAnswer::Refused(NO_DEVICE);
     }
     OwnerAnswer::Owner(owner_found(starts, owners, intervals, point))
 }
@@ -112,8 +120,8 @@ fn refused(refusal: u32, probes: u32, counters: Counters) -> CopiesAnswer
 // not within 1 to 8; 10 where no device is present; 12, with 256 probes, where 256 probes find fewer
 // than k different owners.
 pub fn copies_in<'a>(
-    starts: &'a [u32; 4096],
-    owners: &'a [u16; 4096],
+    starts: &'a [u32; MAX_INTERVALS],
+    owners: &'a [u16; MAX_INTERVALS],
     intervals: usize,
     devices: usize,
     range: u64,
@@ -124,31 +132,31 @@ pub fn copies_in<'a>(
     ensures { λ r. ⌜ CopiedIn (now (starts .entry)) (now (owners .entry)) intervals devices range block k counters r ⌝ }
 {
     if k < 1 {
-        return refused(11, 0, counters);
+        return refused(COPIES_OUTSIDE, 0, counters);
     }
     if k > 8 {
-        return refused(11, 0, counters);
+        return refused(COPIES_OUTSIDE, 0, counters);
     }
     if devices == 0 {
-        return refused(10, 0, counters);
+        return refused(NO_DEVICE, 0, counters);
     }
     let mut most = range;
-    if range > 4294967296 {
-        most = 4294967296;
+    if range > MAX_RANGE {
+        most = MAX_RANGE;
     }
-    let walk = walk_probes(starts, owners, intervals, most, block, k as usize);
-    if walk.found < k as usize {
-        return refused(12, 256, counters);
+    let probed = probe_owners(starts, owners, intervals, most, block, k as usize);
+    if probed.found < k as usize {
+        return refused(FEW_OWNERS, PROBES, counters);
     }
-    let list = walk.owners;
+    let list = probed.owners;
     let after = Counters {
         lookups: raised(counters.lookups, 1),
-        probes: raised(counters.probes, walk.probes),
+        probes: raised(counters.probes, probed.probes),
     };
     CopiesAnswer {
         refusal: 0,
         owners: list,
-        probes: walk.probes,
+        probes: probed.probes,
         counters: after,
     }
 }
@@ -158,7 +166,7 @@ fn checked_owner(pool: Pool, point: u64) -> OwnerAnswer
     ensures { λ r. ⌜ Looked pool point r ⌝ }
 {
     if !valid(pool) {
-        return OwnerAnswer::Refused(2);
+        return OwnerAnswer::Refused(OUTSIDE);
     }
     let starts = pool.starts;
     let owners = pool.owners;
@@ -177,7 +185,7 @@ fn checked_copies(pool: Pool, block: u64, k: u64, counters: Counters) -> CopiesA
     ensures { λ r. ⌜ Copied pool block k counters r ⌝ }
 {
     if !valid(pool) {
-        return refused(2, 0, counters);
+        return refused(OUTSIDE, 0, counters);
     }
     let starts = pool.starts;
     let owners = pool.owners;

@@ -1,6 +1,6 @@
 -- The examples of document 01, 'Marked for proof', hold: each by computing.
 use mathlib.Core.Path.{refl}
-use Rattle.history_lines.specs.Text.{capacityIn}
+use Rattle.history_numbers.specs.Text.{capacityIn}
 use Rattle.slicing.specs.Changes.{change}
 use Rattle.slicing.specs.ShareRule.{shares}
 use Rattle.slicing.specs.SixSteps.{turns}

@@ -1,9 +1,9 @@
 -- The examples of document 01, 'Marked for proof', in one group: a record with a field for each, under its sentence. Proved in proofs/Marked.antt.
 use mathlib.Core.Path.{_≡_}
 use mathlib.Core.List.{[], _∷_}
-use Rattle.history_lines.specs.declared.numbers.CapacityAnswer.the-variants.{Thousandths, Refused}
-use Rattle.history_lines.specs.Lines.{capacityAnswer}
-use Rattle.history_lines.specs.Text.{capacityIn}
+use Rattle.history_numbers.specs.declared.numbers.CapacityAnswer.the-variants.{Thousandths, Refused}
+use Rattle.history_numbers.specs.Capacities.{capacityAnswer}
+use Rattle.history_numbers.specs.Text.{capacityIn}
 use Rattle.lookup_core.specs.Probes.{scaled}
 use Rattle.slicing.specs.Changes.{fresh, add, remove, resize}
 use Rattle.slicing.specs.Claims.{written}

@@ -1,3 +1,4 @@
 pub mod RowNames
 pub mod OpenPools
 pub mod HalvedIds
+pub mod FreshPools

@@ -1,8 +1,8 @@
 -- Laws of opened pools: what the validity of the state gives of the arrays.
 --
--- devices: open-few, open-rising, open-ids and open-capacities (bounds)
+-- devices: open-few, open-rising, open-ascending, open-ids and open-capacities (bounds), open-share (each has its share)
 -- intervals: open-length, open-intervals, open-points (their total), open-some (none is empty)
-use mathlib.Core.Path.{_≡_, refl, ap, _∙_}
+use mathlib.Core.Path.{_≡_, refl, sym, ap, _∙_}
 use mathlib.Core.Bool.{Bool}
 use mathlib.Core.List.{List}
 use mathlib.Core.Logic.{_⊎_, inl, inr}
@@ -12,16 +12,17 @@ use native.Mathlib.Omega.{arith}
 use lib.Dec.{eqb}
 use lib.ListN.{length}
 use Rattle.slicing.specs.Devices.{Rising}
-use Rattle.slicing.specs.Runs.{total, relabel, Coalesced}
+use Rattle.slicing.specs.Runs.{total, owned, relabel, Coalesced}
+use Rattle.slicing.specs.ShareRule.{shareOf}
 use Rattle.slicing.proofs.Runs.{total-relabel}
 use Rattle.slicing_core.specs.Rows.{at}
-use Rattle.slicing_core.specs.Stages.{Below}
-use Rattle.slicing_core.proofs.DeviceRows.{below-rising, capacities-rising}
+use Rattle.slicing_core.specs.Stages.{Below, Ascending}
+use Rattle.slicing_core.proofs.DeviceRows.{ascending-rising, below-rising, capacities-rising}
 use Rattle.slicing_core.proofs.Rows.{length-deviceRows}
 use Rattle.six_steps.specs.Words.{runs}
 use Rattle.opened.specs.declared.Opened.{Opened}
 use Rattle.opened.specs.OpenPools.{devicesIn, Open}
-use Rattle.opened.proofs.RowNames.{length-relabel, length-runs}
+use Rattle.opened.proofs.RowNames.{length-relabel, length-runs, named-row, owned-names}
 
 -- runs that are coalesced under any names are not empty
 sizes-from : {A : Type 0} (eq : A → A → Bool) (f : ℕ → A) (xs : List ℕ) (i n : ℕ) → Coalesced eq (relabel f (runs xs i n)) → (j : ℕ) → i ≤ j → j < i + n
@@ -50,6 +51,15 @@ module _ {o : Opened} {table : List ℕ} (h : Open o table) where
 
   pub open-capacities : Below 4294967296 (o .capacities) (o .devices)
   open-capacities i l = omega (arith, capacities-rising (o .ids) (o .capacities) (o .devices) open-rising i l)
+
+  pub open-ascending : Ascending (o .ids) (o .devices)
+  open-ascending = ascending-rising (o .ids) (o .capacities) (o .devices) open-rising
+
+  pub open-share : (i : ℕ) → i < o .devices → at (o .has) i ≡ shareOf (o .range) (devicesIn o) (at (o .ids) i)
+  open-share i l =
+      h .held i l ∙ sym (owned-names (o .ids) (o .devices) open-ascending open-ids table (o .intervals) (h .labels) i)
+      ∙ ap (λ x. owned x (relabel (at (o .ids)) (runs table 0 (o .intervals)))) (named-row (o .ids) (o .devices) i l)
+      ∙ h .valid .held (omega (arith, devices-length)) (at (o .ids) i)
 
   -- ---- intervals
 

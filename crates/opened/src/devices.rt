@@ -1,6 +1,7 @@
 // The devices of an opened pool: limits, the row of an id, and their shares.
 use crate::Opened;
 use shares::shares;
+use slicing::MAX_DEVICES;
 ghost use mathlib.Core.Path.{_≡_};
 ghost use mathlib.Core.Bool.{true};
 ghost use mathlib.Core.List.{List};
@@ -23,7 +24,7 @@ pub fn outside(most: u64, x: u64) -> bool
 }
 
 // How many of the n rising ids are below `id`, by halving.
-pub fn position(ids: &[u64; 256], n: usize, id: u64) -> usize
+pub fn position(ids: &[u64; MAX_DEVICES], n: usize, id: u64) -> usize
     requires { ⌜ (n ≤ 256) × Ascending (now ids) n ⌝ }
     ensures { λ r. ⌜ Position (now (ids .entry)) n id r ⌝ }
 {
@@ -46,7 +47,7 @@ pub struct Place {
     pub present: bool,
 }
 
-pub fn find(ids: &[u64; 256], n: usize, id: u64) -> Place
+pub fn find(ids: &[u64; MAX_DEVICES], n: usize, id: u64) -> Place
     requires { ⌜ (n ≤ 256) × Ascending (now ids) n ⌝ }
     ensures row { λ r. ⌜ Position (now (ids .entry)) n id (r .row) ⌝ }
     ensures present { λ r. ⌜ ((c : List ℕ) → r .present ≡ Devices.present id (deviceRows (now (ids .entry)) c 0 n)) ⌝ }
@@ -68,7 +69,12 @@ pub fn find(ids: &[u64; 256], n: usize, id: u64) -> Place
 }
 
 // The pool with the n devices, each having its share.
-pub fn shared(before: Opened, n: usize, ids: &[u64; 256], capacities: &[u64; 256]) -> Opened
+pub fn shared(
+    before: Opened,
+    n: usize,
+    ids: &[u64; MAX_DEVICES],
+    capacities: &[u64; MAX_DEVICES],
+) -> Opened
     requires { ⌜ (1 ≤ n) × (n ≤ 256) × (before .range ≤ Limits.maxRange) × Devices.Rising 0 (deviceRows (now ids) (now capacities) 0 n) ⌝ }
     ensures same { λ r. ⌜ (r .range ≡ before .range) × (r .limit ≡ before .limit) × (r .devices ≡ n) × (r .ids ≡ now (ids .entry)) × (r .capacities ≡ now (capacities .entry)) ⌝ }
     ensures shares { λ r. ⌜ rows (r .has) (now (ids .entry)) 0 n ≡ sharesOf (before .range) (deviceRows (now (ids .entry)) (now (capacities .entry)) 0 n) ⌝ }

@@ -1,88 +1,55 @@
--- What the offered calls and the internal changes on flat numbers promise: for each, a record of equations for every pool value, every
--- number and every list.
+-- What the offered changes promise, with their list in its named form.
 --
---   movesIn xs              the moves of a flat list, four numbers a place
---   flat ms                 the numbers of moves
---   Fresh R M r             r answers the call for a fresh pool
+--   moveOf m, rowOf m       a move of the list as the rules' move, and back
 --   Answered ..             the values of an answer, from an outcome of the rules
 --   Changed p lent k r l    r answers the change k on the pool p, and l is the lent list afterwards
---   changeOf c              the rules' change that a call asks for
---   shareReply r            document 01's number and value of the answer r to the call for a share
---   shareAnswer s id        the answer to the call for the share of id
---   Shared p id r           r is that answer of the pool p
+--   Holds o p d             d holds the outcome o of the rules, with the pool p afterwards
+--   Drawn p k n d           d is the change k on the pool p, worked out for a list of n places
 use mathlib.Core.Path.{_≡_}
-use mathlib.Core.Bool.{cond, _||_}
-use mathlib.Core.List.{List, [], _∷_, _++_}
-use Prim.Native.Nat.{ℕ, _*_}
-use lib.ListN.{drop}
-use Rattle.slicing.specs.Changes.{State, fresh, Change, add, remove, resize, Outcome, refused, change}
+use mathlib.Core.List.{List, _++_, map}
+use Prim.Native.Nat.{ℕ, _≤_}
+use lib.ListN.{length, take, drop}
+use Rattle.pools.specs.Pools.{stateOf, poolOf, ValidPool}
+use Rattle.pools.specs.declared.Pool.{Pool}
+use Rattle.slicing.specs.Changes.{Change, Outcome, refused, change}
 use Rattle.slicing.specs.Claims.{written}
-use Rattle.slicing.specs.Devices.{present}
-use Rattle.slicing.specs.Limits.{maxRange, maxLimit, maxId, outside}
-use Rattle.slicing.specs.Replies.{Reply, replied, declined}
-use Rattle.slicing.specs.ShareRule.{shareOf}
-use Rattle.slicing.specs.SixSteps.{Move, move}
-use Rattle.placement.specs.Pools.{stateOf, poolOf, ValidPool}
-use Rattle.placement.specs.declared.Call.{Call}
-use Rattle.placement.specs.declared.Call.the-variants.{Add, Remove, Resize}
+use Rattle.slicing.specs.SixSteps as Rules
+use Rattle.six_steps.specs.Words.{room}
 use Rattle.placement.specs.declared.ChangeAnswer.{ChangeAnswer}
-use Rattle.placement.specs.declared.Pool.{Pool}
-use Rattle.placement.specs.declared.PoolAnswer.{PoolAnswer}
-use Rattle.placement.specs.declared.ShareAnswer.{ShareAnswer}
-use Rattle.placement.specs.declared.ShareAnswer.the-variants.{Share, Refused}
+use Rattle.placement.specs.declared.Draft.{Draft}
+use Rattle.placement.specs.declared.Move.{Move}
 
-abbrev pub movesIn : List ℕ → List Move
-movesIn [] = []
-movesIn (a ∷ []) = []
-movesIn (a ∷ b ∷ []) = []
-movesIn (a ∷ b ∷ c ∷ []) = []
-movesIn (a ∷ b ∷ c ∷ d ∷ xs) = move a b c d ∷ movesIn xs
+abbrev pub moveOf : Move → Rules.Move
+moveOf m = Rules.move (m .start) (m .length) (m .from) (m .to)
 
-abbrev pub flat : List Move → List ℕ
-flat [] = []
-flat (m ∷ ms) = m .start ∷ m .size ∷ m .from ∷ m .to ∷ flat ms
+abbrev pub rowOf : Rules.Move → Move
+rowOf m = record { start = m .start; length = m .size; from = m .from; to = m .to }
 
--- 'a refused call that makes a pool gives a fresh one with R = 1 and M = 1'
-pub record Fresh (R M : ℕ) (r : PoolAnswer) : Type 0 where
-  pub number : r .refusal ≡ cond (outside maxRange R || outside maxLimit M) 2 0
-  pub pool : r .pool ≡ poolOf (cond (outside maxRange R || outside maxLimit M) (fresh 1 1) (fresh R M))
-
--- the answer that an outcome of the rules asks, with the pool p afterwards
-pub record Answered (lent : List ℕ) (o : Outcome) (p : Pool) (r : ChangeAnswer) (after : List ℕ) : Type 0 where
+-- 'The call writes the moves, lowest start first, into the list lent to it, and answers their number and the moved points. List places
+-- after them stay.'
+pub record Answered (lent : List Move) (o : Outcome) (p : Pool) (r : ChangeAnswer) (after : List Move) : Type 0 where
   pub number : r .refusal ≡ o .number
   pub moved : r .moved ≡ o .moved
   pub count : r .count ≡ o .count
   pub pool : r .pool ≡ p
-  pub list : after ≡ flat (written o) ++ drop (4 * o .count) lent
+  pub list : after ≡ map rowOf (written o) ++ drop (o .count) lent
 
 -- of a valid pool the rules' outcome; any other is refused with 2
-pub record Changed (p : Pool) (lent : List ℕ) (k : Change) (r : ChangeAnswer) (after : List ℕ) : Type 0 where
-  pub valid : ValidPool p → Answered lent (change (stateOf p) (movesIn lent) k) (poolOf (change (stateOf p) (movesIn lent) k .state)) r after
-  pub invalid : (ValidPool p → ⊥) → Answered lent (refused (stateOf p) (movesIn lent) 2) p r after
+pub record Changed (p : Pool) (lent : List Move) (k : Change) (r : ChangeAnswer) (after : List Move) : Type 0 where
+  pub valid : ValidPool p → Answered lent (change (stateOf p) (map moveOf lent) k) (poolOf (change (stateOf p) (map moveOf lent) k .state)) r after
+  pub invalid : (ValidPool p → ⊥) → Answered lent (refused (stateOf p) (map moveOf lent) 2) p r after
 
-abbrev pub changeOf : Call → Change
-changeOf (Add d c) = add d c
-changeOf (Remove d) = remove d
-changeOf (Resize d c) = resize d c
+-- the values of a draft, from an outcome of the rules
+pub record Holds (o : Outcome) (p : Pool) (d : Draft) : Type 0 where
+  pub number : d .answer .refusal ≡ o .number
+  pub moved : d .answer .moved ≡ o .moved
+  pub count : d .answer .count ≡ o .count
+  pub pool : d .answer .pool ≡ p
+  pub rows : take (o .count) (d .rows) ≡ map rowOf (written o)
 
--- 'For an answer that is an enum, a definition gives this paper's number and values for each case of the enum.'
-abbrev pub shareReply : ShareAnswer → Reply
-shareReply (Share x) = replied x
-shareReply (Refused n) = declined n
-
--- 2 for an id outside its limits, 5 for an absent one, else the share
-abbrev pub shareAnswer : State → ℕ → ShareAnswer
-shareAnswer s id =
-    cond (outside maxId id) (Refused 2)
-    (cond (present id (s .devices)) (Share (shareOf (s .range) (s .devices) id))
-    (Refused 5))
-
-pub record Shared (p : Pool) (id : ℕ) (r : ShareAnswer) : Type 0 where
-  pub valid : ValidPool p → r ≡ shareAnswer (stateOf p) id
-  pub reply : ValidPool p
-      → shareReply r
-      ≡ cond (outside maxId id) (declined 2)
-      (cond (present id (stateOf p .devices)) (replied (shareOf (stateOf p .range) (stateOf p .devices) id))
-      (declined 5))
-  pub invalid : (ValidPool p → ⊥) → r ≡ Refused 2
-  pub invalidReply : (ValidPool p → ⊥) → shareReply r ≡ declined 2
+-- the same outcome for every lent list of n places
+pub record Drawn (p : Pool) (k : Change) (n : ℕ) (d : Draft) : Type 0 where
+  pub fits : d .answer .count ≤ n
+  pub most : d .answer .count ≤ room
+  pub valid : ValidPool p → (lent : List Rules.Move) → length lent ≡ n → Holds (change (stateOf p) lent k) (poolOf (change (stateOf p) lent k .state)) d
+  pub invalid : (ValidPool p → ⊥) → (lent : List Rules.Move) → length lent ≡ n → Holds (refused (stateOf p) lent 2) p d

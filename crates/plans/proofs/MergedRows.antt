@@ -89,15 +89,12 @@ record Rowed (o : Opened) (table : List ℕ) (rs : Rows) (work : List ℕ) : Typ
   known : Below 65536 (rs .names) (rs .count)
   labels : Labelled (rs .count) work (o .intervals)
   held : (i : ℕ) → i < rs .count → at (rs .has) i ≡ owned i (runs work 0 (o .intervals))
-  namesSize : length (rs .names) ≡ 256
-  hasSize : length (rs .has) ≡ 256
 
 record Leaving (e : Opened) (rs : Rows) : Type 0 where
   left : (x : ℕ) → x < rs .count → (x ≡ rs .gone → ⊥)
-      → (lowered (rs .gone) x < e .devices) × (at (e .ids) (lowered (rs .gone) x) ≡ at (rs .names) x) × (at (e .has) (lowered (rs .gone) x) ≡ at (rs .due) x)
+      → (lowered (rs .gone) x < e .devices) × (at (e .ids) (lowered (rs .gone) x) ≡ at (rs .names) x)
   gone : rs .gone < rs .count → at (rs .due) (rs .gone) ≡ 0
   due : present (rows (rs .due) (rs .names) 0 (rs .count)) ≡ present (rows (e .has) (e .ids) 0 (e .devices))
-  dueSize : length (rs .due) ≡ 256
 
 pub record Prepared (o : Opened) (table : List ℕ) (e : Opened) (rs : Rows) (work : List ℕ) (es : List Device) : Type 0 where
   pub merged : Merged o e rs work
@@ -125,9 +122,6 @@ module _ {o : Opened} {table : List ℕ} (a : Open o table) (had : 1 ≤ o .devi
       left = l .left;
       gone = l .gone;
       due = ap present (relabel-rows (rs .due) (rs .names) 0 (rs .count)) ∙ l .due ∙ ap present given;
-      namesSize = w .namesSize;
-      hasSize = w .hasSize;
-      dueSize = l .dueSize;
       idsSize = ap length (s .0 .3) ∙ x .idsSize;
       capacitiesSize = ap length (s .0 .4) ∙ x .capacitiesSize;
       sharesSize = s .1 .1;
@@ -152,13 +146,12 @@ module _ {o : Opened} {table : List ℕ} (a : Open o table) (had : 1 ≤ o .devi
     left = λ x h k. stays x h (lowered-cases 256 x);
     gone = λ h. absurd (omega arith);
     due = rw (s .0 .2, s .0 .3);
-    dueSize = s .1 .1;
   }
     where
       stays : (x : ℕ) → x < n → Lowered 256 x
-          → (lowered 256 x < e .devices) × (at (e .ids) (lowered 256 x) ≡ at d x) × (at (e .has) (lowered 256 x) ≡ at (e .has) x)
+          → (lowered 256 x < e .devices) × (at (e .ids) (lowered 256 x) ≡ at d x)
       stays x h (inl k) = absurd (omega arith)
-      stays x h (inr k) = (omega (arith, k .1, s .0 .2), rw (k .1, s .0 .3), rw (k .1))
+      stays x h (inr k) = (omega (arith, k .1, s .0 .2), rw (k .1, s .0 .3))
 
   -- the rows of the pool itself, and what each is to have
   module _ (work : List ℕ) (gone : ℕ) (due : List ℕ) (w : runs work 0 (o .intervals) ≡ relabel (raised 256) (runs table 0 (o .intervals))) where
@@ -181,8 +174,6 @@ module _ {o : Opened} {table : List ℕ} (a : Open o table) (had : 1 ≤ o .devi
       known = below-rising (o .ids) (o .capacities) (o .devices) (a .valid .rising);
       labels = λ j h. omega (arith, a .labels j h, same-label j h);
       held = λ i h. a .held i h ∙ ap (owned i) (sym same-runs);
-      namesSize = a .idsSize;
-      hasSize = a .hasSize;
     }
 
   -- ---- add
@@ -206,8 +197,6 @@ module _ {o : Opened} {table : List ℕ} (a : Open o table) (had : 1 ≤ o .devi
           fits (at table j % 65536) (a .labels j h) (label-at (raised row) work table 0 (o .intervals) w j (omega arith) (omega arith))
           (raised-cases row (at table j % 65536));
       held = λ i h. gives i h (eqb i row) refl;
-      namesSize = x .size;
-      hasSize = z .size;
     }
       where
         fits : {l : ℕ} (k : ℕ) → k < o .devices → l ≡ raised row k → Raised row k → l < o .devices + 1
@@ -243,11 +232,9 @@ module _ {o : Opened} {table : List ℕ} (a : Open o table) (had : 1 ≤ o .devi
       left = λ i h n. (
         fewer i h n (lowered-cases row i),
         rw (s .0 .3) (deleted-lowered x i n (omega (arith, open-few a))),
-        sym (inserted-raised z (lowered row i) (omega (arith, fewer i h n (lowered-cases row i), s .0 .2, open-few a))) ∙ ap (at due) (raised-lowered row i n),
       );
       gone = λ h. z .here;
       due = rw (s .0 .2, s .0 .3) (rw k at (present-inserted {n = o .devices - 1} (omega (arith, found .0)) (omega (arith, open-few a)) z x));
-      dueSize = z .size;
     }
       where
         k : o .devices - 1 + 1 ≡ o .devices

@@ -61,14 +61,11 @@ pub record Merged (o e : Opened) (rs : Rows) (work : List ℕ) : Type 0 where
   pub fewAfter : e .devices ≤ 256
   pub rising : Rising 0 (devicesIn e)
   pub shared : rows (e .has) (e .ids) 0 (e .devices) ≡ shares (e .range) (devicesIn e)
-  -- each row but the one that goes is one of theirs, and is to have its share; the one that goes is to have nothing
+  -- each row but the one that goes is one of theirs; the one that goes is to have nothing
   pub left : (x : ℕ) → x < rs .count → (x ≡ rs .gone → ⊥)
-      → (lowered (rs .gone) x < e .devices) × (at (e .ids) (lowered (rs .gone) x) ≡ at (rs .names) x) × (at (e .has) (lowered (rs .gone) x) ≡ at (rs .due) x)
+      → (lowered (rs .gone) x < e .devices) × (at (e .ids) (lowered (rs .gone) x) ≡ at (rs .names) x)
   pub gone : rs .gone < rs .count → at (rs .due) (rs .gone) ≡ 0
   pub due : present (relabel (at (rs .names)) (byRow (rs .due) 0 (rs .count))) ≡ present (shares (e .range) (devicesIn e))
-  pub namesSize : length (rs .names) ≡ 256
-  pub hasSize : length (rs .has) ≡ 256
-  pub dueSize : length (rs .due) ≡ 256
   pub idsSize : length (e .ids) ≡ 256
   pub capacitiesSize : length (e .capacities) ≡ 256
   pub sharesSize : length (e .has) ≡ 256

@@ -1,5 +1,6 @@
 // The three calls for a change, planned on an opened pool.
 use crate::Call;
+use crate::NO_ROW;
 use crate::Plan;
 use crate::Rows;
 use crate::first::first;
@@ -11,6 +12,14 @@ use opened::devices::find;
 use opened::devices::outside;
 use opened::devices::shared;
 use six_steps::runs::ROOM;
+use slicing::ABSENT;
+use slicing::FULL;
+use slicing::MAX_CAPACITY;
+use slicing::MAX_DEVICES;
+use slicing::MAX_ID;
+use slicing::ONLY_DEVICE;
+use slicing::OUTSIDE;
+use slicing::PRESENT;
 use slicing_core::devices::delete_row;
 use slicing_core::devices::insert_row;
 ghost use mathlib.Core.Path.{_≡_};
@@ -19,10 +28,6 @@ ghost use Rattle.slicing.specs.Changes as Changes;
 ghost use Rattle.six_steps.specs.Words.{room};
 ghost use Rattle.opened.specs.OpenPools.{stateIn, Open};
 ghost use Rattle.plans.specs.Plans.{Planned, changeOf};
-
-const MAX_ID: u64 = 65535;
-
-const MAX_CAPACITY: u64 = 1000000;
 
 // A device more. 2 for an id or a capacity outside its limits, 4 where the id is present, 6 where 256 devices
 // are; 8 and 9 are those of `settle`. No row goes: 256 is the number of none.
@@ -40,19 +45,19 @@ fn add(
     ensures { λ r. ⌜ (length (now (work .exit)) ≡ room) × (length (now (next .exit)) ≡ room) ⌝ }
 {
     if outside(MAX_ID, id) {
-        return refused(before, 2);
+        return refused(before, OUTSIDE);
     }
     if outside(MAX_CAPACITY, capacity) {
-        return refused(before, 2);
+        return refused(before, OUTSIDE);
     }
     let n = before.devices;
     let ids = before.ids;
     let place = find(&ids, n, id);
     if place.present {
-        return refused(before, 4);
+        return refused(before, PRESENT);
     }
-    if n >= 256 {
-        return refused(before, 6);
+    if n >= MAX_DEVICES {
+        return refused(before, FULL);
     }
     if n == 0 {
         return first(before, id, capacity, next);
@@ -67,7 +72,7 @@ fn add(
     raise(table, before.intervals, row, &mut *work);
     let rows = Rows {
         count: n + 1,
-        gone: 256,
+        gone: NO_ROW,
         names: names,
         has: insert_row(&has, row, 0),
         due: due,
@@ -89,16 +94,16 @@ fn remove(
     ensures { λ r. ⌜ (length (now (work .exit)) ≡ room) × (length (now (next .exit)) ≡ room) ⌝ }
 {
     if outside(MAX_ID, id) {
-        return refused(before, 2);
+        return refused(before, OUTSIDE);
     }
     let n = before.devices;
     let names = before.ids;
     let held = find(&names, n, id);
     if !held.present {
-        return refused(before, 5);
+        return refused(before, ABSENT);
     }
     if n <= 1 {
-        return refused(before, 7);
+        return refused(before, ONLY_DEVICE);
     }
     let row = held.row;
     let capacities = before.capacities;
@@ -107,7 +112,7 @@ fn remove(
     let fewer = delete_row(&capacities, row);
     let after = shared(before, n - 1, &ids, &fewer);
     let shares = after.has;
-    raise(table, before.intervals, 256, &mut *work);
+    raise(table, before.intervals, NO_ROW, &mut *work);
     let rows = Rows {
         count: n,
         gone: row,
@@ -133,16 +138,16 @@ fn resize(
     ensures { λ r. ⌜ (length (now (work .exit)) ≡ room) × (length (now (next .exit)) ≡ room) ⌝ }
 {
     if outside(MAX_ID, id) {
-        return refused(before, 2);
+        return refused(before, OUTSIDE);
     }
     if outside(MAX_CAPACITY, capacity) {
-        return refused(before, 2);
+        return refused(before, OUTSIDE);
     }
     let n = before.devices;
     let ids = before.ids;
     let place = find(&ids, n, id);
     if !place.present {
-        return refused(before, 5);
+        return refused(before, ABSENT);
     }
     let row = place.row;
     let mut capacities = before.capacities;
@@ -150,10 +155,10 @@ fn resize(
     let after = shared(before, n, &ids, &capacities);
     let has = before.has;
     let due = after.has;
-    raise(table, before.intervals, 256, &mut *work);
+    raise(table, before.intervals, NO_ROW, &mut *work);
     let rows = Rows {
         count: n,
-        gone: 256,
+        gone: NO_ROW,
         names: ids,
         has: has,
         due: due,

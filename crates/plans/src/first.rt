@@ -1,6 +1,7 @@
 // The first device of a pool.
 use crate::Plan;
 use opened::Opened;
+use six_steps::runs::LABELS;
 use six_steps::runs::ROOM;
 ghost use mathlib.Core.Path.{_≡_};
 ghost use mathlib.Core.List.{List, [], _∷_};
@@ -21,7 +22,7 @@ pub fn first(before: Opened, id: u64, capacity: u64, next: &mut [u64; ROOM]) -> 
         → Planned (λ lent. Changes.accepted s lent (Devices.device id capacity ∷ []) ((s .range of id) ∷ []) []) places before r work (now (next .exit))) ⌝ }
     ensures { λ r. ⌜ length (now (next .exit)) ≡ room ⌝ }
 {
-    next[0] = before.range * 65536;
+    next[0] = before.range * LABELS;
     let mut after = before;
     after.devices = 1;
     after.ids[0] = id;

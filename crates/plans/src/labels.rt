@@ -1,4 +1,5 @@
 // The rows that a table names, as rows come and go.
+use six_steps::runs::LABELS;
 use six_steps::runs::ROOM;
 ghost use mathlib.Core.Path.{_≡_};
 ghost use Prim.Native.Nat.{_%_, _≤_, _<_};
@@ -13,7 +14,7 @@ fn raised_run(run: u64, row: u64) -> u64
     requires { ⌜ run % 65536 < 256 ⌝ }
     ensures { λ r. ⌜ Named (raised row) run r ⌝ }
 {
-    if run % 65536 < row {
+    if run % LABELS < row {
         return run;
     }
     run + 1
@@ -44,7 +45,7 @@ pub fn lower(table: &mut [u64; ROOM], q: usize, p: usize)
     let mut i = 0;
     while i < q {
         let run = table[i];
-        if run % 65536 > row {
+        if run % LABELS > row {
             table[i] = run - 1;
         }
         i += 1;

@@ -6,6 +6,10 @@ pub mod labels;
 mod settling;
 
 use opened::Opened;
+use slicing::MAX_DEVICES;
+
+// The row of none: where no row comes in, or none goes.
+const NO_ROW: usize = 256;
 
 // A call for a change, with its arguments.
 pub enum Call {
@@ -21,7 +25,7 @@ pub struct Plan {
     pub moved: u64,
     pub count: usize,
     pub turns: usize,
-    pub names: [u64; 256],
+    pub names: [u64; MAX_DEVICES],
     pub after: Opened,
 }
 
@@ -30,7 +34,7 @@ pub struct Plan {
 pub struct Rows {
     pub count: usize,
     pub gone: usize,
-    pub names: [u64; 256],
-    pub has: [u64; 256],
-    pub due: [u64; 256],
+    pub names: [u64; MAX_DEVICES],
+    pub has: [u64; MAX_DEVICES],
+    pub due: [u64; MAX_DEVICES],
 }

@@ -5,12 +5,11 @@ use crate::labels::lower;
 use opened::Opened;
 use six_steps::runs::ROOM;
 use six_steps::steps::steps;
+use slicing::OVER_LIMIT;
+use slicing::SHORT_LIST;
 ghost use mathlib.Core.Path.{_≡_};
-ghost use mathlib.Core.List.{List};
-ghost use Prim.Native.Nat.{ℕ};
 ghost use lib.ListN.{length};
 ghost use Rattle.slicing.specs.Changes as Changes;
-ghost use Rattle.slicing.specs.Changes.{State};
 ghost use Rattle.six_steps.specs.Words.{room};
 ghost use Rattle.opened.specs.OpenPools.{devicesIn};
 ghost use Rattle.plans.specs.Plans.{Merged, Planned, stateBy};
@@ -56,10 +55,10 @@ pub fn settle(
     );
     let limit = before.limit as usize;
     if done.intervals > limit {
-        return refused(before, 8);
+        return refused(before, OVER_LIMIT);
     }
     if done.count > places {
-        return refused(before, 9);
+        return refused(before, SHORT_LIST);
     }
     lower(next, done.intervals, rows.gone);
     let names = rows.names;

@@ -14,7 +14,7 @@ use native.Mathlib.Omega.{arith}
 use lib.Arith.{mod-mul}
 use lib.Dec.{lit<}
 use lib.Pow.{pow-add, pow-pos}
-use Rattle.sha1.specs.Fips180.{bytes, pad, N, word, block, initial, compress, H, wordsOf, digest}
+use Rattle.sha1_blocks.specs.Fips180.{bytes, pad, N, word, block, initial, compress, H, wordsOf, digest}
 
 pub bytes-append : (n k x : ℕ) → bytes (n + k) x ≡ bytes n (x / 2 ^ (8 * k)) ++ bytes k x
 bytes-append zero k x = let e : zero + k ≡ k = omega arith in rw e

@@ -1,44 +1,16 @@
 // SHA-1 of FIPS 180-4 on 0 to 65,536 bytes. Offered: `digest`, for the bytes of a slice, and
 // `first_word`, for twelve bytes given as numbers. The rest is internal.
+use sha1_blocks::Hash;
+use sha1_blocks::compress;
 ghost use mathlib.Core.Path.{_≡_};
 ghost use mathlib.Core.List.{_++_};
 ghost use Prim.Native.Nat.{_/_};
 ghost use lib.ListN.{getD};
-ghost use Rattle.sha1.specs.Fips180 as Fips;
-ghost use Rattle.sha1.specs.Fips180.{bytes};
+ghost use Rattle.sha1_blocks.specs.Fips180 as Fips;
+ghost use Rattle.sha1_blocks.specs.Fips180.{bytes};
 ghost use Rattle.sha1.specs.Promises.{Digested};
 
-mod functions;
 mod message;
-mod rounds;
-
-// The five words of a hash value, and the working variables a to e of a block's rounds.
-pub struct Hash {
-    pub a: u32,
-    pub b: u32,
-    pub c: u32,
-    pub d: u32,
-    pub e: u32,
-}
-
-impl Hash {
-    // The five starting words of section 5.3.1.
-    const INITIAL: [u32; 5] = [0x67452301, 0xefcdab89, 0x98badcfe, 0x10325476, 0xc3d2e1f0];
-
-    // A fresh hash holds the starting words.
-    pub fn new() -> Self
-        ensures { λ r. ⌜ r ≡ Fips.initial ⌝ }
-    {
-        let h = Self::INITIAL;
-        Self {
-            a: h[0],
-            b: h[1],
-            c: h[2],
-            d: h[3],
-            e: h[4],
-        }
-    }
-}
 
 // The answer to a call of `digest`: document 01's refusal number, or 0 and the five words.
 pub struct DigestAnswer {
@@ -74,6 +46,6 @@ pub fn first_word(high: u64, low: u32) -> u32
     w[2] = low;
     w[3] = 0x80000000;
     w[15] = 96;
-    let h = rounds::compress(Hash::new(), &mut w);
+    let h = compress(Hash::new(), &mut w);
     h.a
 }

@@ -1,11 +1,11 @@
 // A message: its padding, its blocks, and the hash value after the last of them.
-use crate::Hash;
-use crate::rounds::compress;
+use sha1_blocks::Hash;
+use sha1_blocks::compress;
 ghost use mathlib.Core.Path.{_≡_};
 ghost use Prim.Native.Nat.{_+_, _*_, _/_, _^_, _<_, _≤_};
 ghost use lib.ListN.{length, getD};
-ghost use Rattle.sha1.specs.Fips180.{pad, N, word, block};
-ghost use Rattle.sha1.specs.Fips180 as Fips;
+ghost use Rattle.sha1_blocks.specs.Fips180.{pad, N, word, block};
+ghost use Rattle.sha1_blocks.specs.Fips180 as Fips;
 ghost use Rattle.sha1.specs.Promises.{limit};
 
 // The most bytes that are hashed.

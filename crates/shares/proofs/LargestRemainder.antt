@@ -21,7 +21,7 @@ use Rattle.slicing.proofs.LargestRemainder.{lex, floors-le}
 use Rattle.slicing_core.specs.Rows.{at, rows, deviceRows}
 use Rattle.shares.specs.LargestRemainder.{Remainders, rank}
 use Rattle.slicing_core.proofs.DeviceRows.{within-rising}
-use Rattle.slicing_core.proofs.Fills.{Filling}
+use Rattle.slicing_core.proofs.FilledArrays.{FilledTo}
 use Rattle.slicing_core.proofs.Rows.{length-deviceRows}
 
 -- ---- capacities of devices within their limits
@@ -59,7 +59,7 @@ pub floors-most : (R C : ℕ) (ids caps : List ℕ) (n : ℕ) → C ≡ capaciti
 floors-most R C ids caps n e h = rw e (floors-le R (deviceRows ids caps 0 n) (omega arith))
 
 pub remainders-rows : {R n C given : ℕ} {ids caps fl rs : List ℕ} → C ≡ capacities (deviceRows ids caps 0 n)
-    → Filling (λ k. R * at caps k / C) fl n → Filling (λ k. R * at caps k % C) rs n → given ≡ floors R C (deviceRows ids caps 0 n)
+    → FilledTo (λ k. R * at caps k / C) fl n → FilledTo (λ k. R * at caps k % C) rs n → given ≡ floors R C (deviceRows ids caps 0 n)
     → Remainders R ids caps n fl rs (R - given)
 remainders-rows e f r g = record {
   floorsSize = f .size;

@@ -1,4 +1,5 @@
 // Shares by largest remainder.
+use slicing::MAX_DEVICES;
 ghost use mathlib.Core.Path.{_≡_};
 ghost use Prim.Native.Nat.{_≤_, _<_};
 ghost use lib.ListN.{length};
@@ -10,8 +11,8 @@ ghost use Rattle.slicing_core.specs.Rows.{rows, deviceRows};
 ghost use Rattle.shares.specs.LargestRemainder.{Remainders};
 ghost use Rattle.shares.specs.LargestRemainder.{rank as rankOf};
 
-// The sum of the capacities.
-fn sum(capacities: &[u64; 256], ids: &[u64; 256], n: usize) -> u64
+// The sum of the capacities. The contract alone reads the ids: it speaks of devices.
+fn sum(capacities: &[u64; MAX_DEVICES], ids: &[u64; MAX_DEVICES], n: usize) -> u64
     requires { ⌜ (n ≤ 256) × Rising 0 (deviceRows (now ids) (now capacities) 0 n) ⌝ }
     ensures { λ r. ⌜ r ≡ capacitiesOf (deviceRows (now (ids .entry)) (now (capacities .entry)) 0 n) ⌝ }
 {
@@ -26,18 +27,25 @@ fn sum(capacities: &[u64; 256], ids: &[u64; 256], n: usize) -> u64
 
 // What each device gets first, what its rounding leaves, and the points left over.
 struct Division {
-    floors: [u64; 256],
-    remainders: [u64; 256],
+    floors: [u64; MAX_DEVICES],
+    remainders: [u64; MAX_DEVICES],
     leftover: u64,
 }
 
-fn divided(range: u64, capacities: &[u64; 256], ids: &[u64; 256], n: usize, c: u64) -> Division
+// The division of a range by the capacities, whose sum is c. The contract alone reads the ids.
+fn divided(
+    range: u64,
+    capacities: &[u64; MAX_DEVICES],
+    ids: &[u64; MAX_DEVICES],
+    n: usize,
+    c: u64,
+) -> Division
     requires { ⌜ (n ≤ 256) × (range ≤ maxRange) × Rising 0 (deviceRows (now ids) (now capacities) 0 n) ⌝ }
     requires { ⌜ (c ≡ capacitiesOf (deviceRows (now ids) (now capacities) 0 n)) × (1 ≤ c) ⌝ }
     ensures { λ r. ⌜ Remainders range (now (ids .entry)) (now (capacities .entry)) n (r .floors) (r .remainders) (r .leftover) ⌝ }
 {
-    let mut floors = [0u64; 256];
-    let mut remainders = [0u64; 256];
+    let mut floors = [0u64; MAX_DEVICES];
+    let mut remainders = [0u64; MAX_DEVICES];
     let mut given = 0;
     let mut i = 0;
     while i < n {
@@ -56,7 +64,7 @@ fn divided(range: u64, capacities: &[u64; 256], ids: &[u64; 256], n: usize, c: u
 
 // How many devices go before the one at place p where points are left over: those with a larger
 // remainder, and of equal ones those with a lower id.
-fn rank(remainders: &[u64; 256], ids: &[u64; 256], n: usize, p: usize) -> u64
+fn rank(remainders: &[u64; MAX_DEVICES], ids: &[u64; MAX_DEVICES], n: usize, p: usize) -> u64
     requires { ⌜ (n ≤ 256) × (p < n) ⌝ }
     ensures { λ r. ⌜ r ≡ rankOf (now (remainders .entry)) (now (ids .entry)) p 0 n ⌝ }
 {
@@ -81,7 +89,12 @@ fn rank(remainders: &[u64; 256], ids: &[u64; 256], n: usize, p: usize) -> u64
 }
 
 // The share of each of the n devices by largest remainder.
-pub fn shares(range: u64, ids: &[u64; 256], capacities: &[u64; 256], n: usize) -> [u64; 256]
+pub fn shares(
+    range: u64,
+    ids: &[u64; MAX_DEVICES],
+    capacities: &[u64; MAX_DEVICES],
+    n: usize,
+) -> [u64; MAX_DEVICES]
     requires { ⌜ (1 ≤ n) × (n ≤ 256) × (range ≤ maxRange) × Rising 0 (deviceRows (now ids) (now capacities) 0 n) ⌝ }
     ensures shares { λ r. ⌜ rows r (now (ids .entry)) 0 n ≡ largestRemainder range (deviceRows (now (ids .entry)) (now (capacities .entry)) 0 n) ⌝ }
     ensures { λ r. ⌜ length r ≡ 256 ⌝ }
@@ -91,7 +104,7 @@ pub fn shares(range: u64, ids: &[u64; 256], capacities: &[u64; 256], n: usize) -
     let floors = d.floors;
     let remainders = d.remainders;
     let leftover = d.leftover;
-    let mut into = [0u64; 256];
+    let mut into = [0u64; MAX_DEVICES];
     let mut i = 0;
     while i < n {
         if rank(&remainders, ids, n, i) < leftover {

@@ -1,7 +1,8 @@
-// The share rule in code: what each device of a pool is to have. Internal: `placement` stands on it.
+// The share rule in code: what each device of a pool is to have. Internal: `opened` and `pools` stand on it.
 // One module a rule, each promising its own rule; `shares` is the rule in force.
 mod largest_remainder;
 
+use slicing::MAX_DEVICES;
 ghost use mathlib.Core.Path.{_≡_};
 ghost use Prim.Native.Nat.{_≤_};
 ghost use lib.ListN.{length};
@@ -11,7 +12,12 @@ ghost use Rattle.slicing.specs.ShareRule.{shares as Rule·shares};
 ghost use Rattle.slicing_core.specs.Rows.{rows, deviceRows};
 
 // The share of each of the n devices by the rule in force; the places past them are free.
-pub fn shares(range: u64, ids: &[u64; 256], capacities: &[u64; 256], n: usize) -> [u64; 256]
+pub fn shares(
+    range: u64,
+    ids: &[u64; MAX_DEVICES],
+    capacities: &[u64; MAX_DEVICES],
+    n: usize,
+) -> [u64; MAX_DEVICES]
     requires { ⌜ (1 ≤ n) × (n ≤ 256) × (range ≤ maxRange) × Rising 0 (deviceRows (now ids) (now capacities) 0 n) ⌝ }
     ensures shares { λ r. ⌜ rows r (now (ids .entry)) 0 n ≡ Rule·shares range (deviceRows (now (ids .entry)) (now (capacities .entry)) 0 n) ⌝ }
     ensures { λ r. ⌜ length r ≡ 256 ⌝ }

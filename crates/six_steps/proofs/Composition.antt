@@ -17,14 +17,14 @@ use lib.Dec.{eqb}
 use lib.ListN.{length}
 use borrow.Author.Tests.{eqb-true, eq-eqb}
 use Rattle.slicing.specs.Runs.{Run, one, total, owned, expand, count, relabel, coalesce}
-use Rattle.slicing.specs.SixSteps.{Side, end, cut, less, walk, Mark, Turn, old, new, sameTurn, fill, needs, reductions, turns, newTable, moves}
+use Rattle.slicing.specs.SixSteps.{Side, end, cut, less, walk, Piece, Turn, old, new, sameTurn, fill, needs, reductions, turns, newTable, moves}
 use Rattle.slicing.specs.SixSteps.{release as releaseOf, points as pointsOf}
 use Rattle.slicing.proofs.Runs.{length-expand, total-relabel, total-coalesce, count-expand, relabel-relabel, relabel-same, expand-relabel, expand-coalesce, expand-table, coalesced-coalesce, coalesced-table, coalesce-unique, owned-coalesce}
 use Rattle.slicing.proofs.Moves.{same-turn, self-turn, points-moves}
 use Rattle.slicing.proofs.SixSteps.{Balanced, total-needs, expand-old, total-turns, owned-new, changing-turns}
 use Rattle.slicing.proofs.Walk.{holder, takens, expand-walk}
 use Rattle.slicing_core.specs.Rows.{at}
-use Rattle.six_steps.specs.Words.{runs, byRow, marks, markOf, turnOf, turnsOf, present, Labelled}
+use Rattle.six_steps.specs.Words.{runs, byRow, piecesOf, pieceOf, turnOf, turnsOf, present, Labelled}
 use Rattle.six_steps.proofs.EmptyPieces.{total-present, takens-present, fill-present}
 use Rattle.six_steps.proofs.Labels.{labels-below}
 use Rattle.six_steps.proofs.Words.{owned-outside}
@@ -78,13 +78,13 @@ module _ (table has due : List ℕ) (q n : ℕ) where
   abbrev allTurns : List (Run Turn)
   allTurns = turns tableRuns hasRows dueRows
 
-  abbrev pieces : List (Run Mark)
+  abbrev pieces : List (Run Piece)
   pieces = walk (releaseOf hasRows dueRows) end false tableRuns
 
   pub record Pieced (queue words : List ℕ) (p : ℕ) : Type 0 where
     pub balanced : Balanced tableRuns hasRows dueRows
     pub queued : runs queue 0 n ≡ needs hasRows dueRows
-    pub written : marks words 0 p ≡ present pieces
+    pub written : piecesOf words 0 p ≡ present pieces
 
   pub record Turned (words : List ℕ) (t : ℕ) : Type 0 where
     pub balanced : Balanced tableRuns hasRows dueRows
@@ -92,7 +92,7 @@ module _ (table has due : List ℕ) (q n : ℕ) where
 
   pub pieced : (release queue words : List ℕ) (p : ℕ) → Labelled n table q → Balanced tableRuns hasRows dueRows
       → ((d : ℕ) → d < n → at release d ≡ releaseOf hasRows dueRows d) → runs queue 0 n ≡ needs hasRows dueRows
-      → marks words 0 p ≡ present (walk (at release) end false tableRuns) → Pieced queue words p
+      → piecesOf words 0 p ≡ present (walk (at release) end false tableRuns) → Pieced queue words p
   pieced release queue words p l b r e w = record {
     balanced = b;
     queued = e;
@@ -100,19 +100,19 @@ module _ (table has due : List ℕ) (q n : ℕ) where
   }
 
 module _ {table has due : List ℕ} {q n : ℕ} {queue words : List ℕ} {p : ℕ} (w : Pieced table has due q n queue words p) where
-  abbrev ps : List (Run Mark)
+  abbrev ps : List (Run Piece)
   ps = pieces table has due q n
 
-  pub pieced-enough : total (takens (marks words 0 p)) ≤ total (runs queue 0 n)
+  pub pieced-enough : total (takens (piecesOf words 0 p)) ≤ total (runs queue 0 n)
   pieced-enough =
       rw (w .written, w .queued, takens-present ps) (omega (arith, total-needs (runs table 0 q) (byRow has 0 n) (byRow due 0 n) (w .balanced)))
 
   pub pieced-total : total (runs words 0 p) ≡ total (runs table 0 q)
   pieced-total =
-      sym (total-relabel markOf (runs words 0 p)) ∙ ap total (w .written) ∙ total-present ps
+      sym (total-relabel pieceOf (runs words 0 p)) ∙ ap total (w .written) ∙ total-present ps
       ∙ total-walk (releaseOf (byRow has 0 n) (byRow due 0 n)) end false (runs table 0 q)
 
-  pub pieced-turned : (work : List ℕ) (t : ℕ) → turnsOf work 0 t ≡ coalesce sameTurn (fill (marks words 0 p) (runs queue 0 n))
+  pub pieced-turned : (work : List ℕ) (t : ℕ) → turnsOf work 0 t ≡ coalesce sameTurn (fill (piecesOf words 0 p) (runs queue 0 n))
       → Turned table has due q n work t
   unfolding turns
   pieced-turned work t e = record {

@@ -14,29 +14,29 @@ use lib.Dec.{eqb}
 use lib.ListN.{length, set, length-set}
 use borrow.Author.Tests.{lt-ltb, le-ltb, eq-eqb}
 use Rattle.slicing.specs.Runs.{Run, _of_, one, total}
-use Rattle.slicing.specs.SixSteps.{end, Mark, kept, taken, less, walk}
+use Rattle.slicing.specs.SixSteps.{end, Piece, kept, taken, less, walk}
 use Rattle.slicing_core.specs.Rows.{at}
 use Rattle.slicing_core.specs.Stages.{side, CutTo}
 use Rattle.slicing_core.specs.declared.cuts.Cut.{Cut}
 use Rattle.slicing_core.proofs.Cutting.{cutTo-whole, cutTo-pieces, walk-cut}
-use Rattle.six_steps.specs.Words.{room, runs, markOf, marks, present, Labelled}
+use Rattle.six_steps.specs.Words.{room, runs, pieceOf, piecesOf, present, Labelled}
 use Rattle.six_steps.specs.Stages.{Put}
 use Rattle.six_steps.proofs.Words.{runs-step, runs-end, at-total}
 use Rattle.six_steps.proofs.Pushing.{put-marks}
 
-mark-kept : (d : ℕ) → d < 256 → markOf d ≡ kept d
+mark-kept : (d : ℕ) → d < 256 → pieceOf d ≡ kept d
 mark-kept d h = rw (lt-ltb d 256 h)
 
-mark-taken : (d : ℕ) → markOf (d + 256) ≡ taken d
+mark-taken : (d : ℕ) → pieceOf (d + 256) ≡ taken d
 mark-taken d =
     let e : d + 256 - 256 ≡ d = omega arith in
     rw (le-ltb (d + 256) 256 (omega arith), e)
 
-module _ (ps : List (Run Mark)) (table : List ℕ) (q : ℕ) where
+module _ (ps : List (Run Piece)) (table : List ℕ) (q : ℕ) where
   pub record Cutting (release pieces : List ℕ) (count i : ℕ) (flag touch : Bool) : Type 0 where
     pub owed : length release ≡ 256
     pub size : length pieces ≡ room
-    pub all : marks pieces 0 count ++ present (walk (at release) (side flag) touch (runs table i (q - i))) ≡ present ps
+    pub all : piecesOf pieces 0 count ++ present (walk (at release) (side flag) touch (runs table i (q - i))) ≡ present ps
     pub few : count ≤ 2 * i
     pub passed : i ≤ q
     pub labels : Labelled 512 pieces count
@@ -52,12 +52,12 @@ cutting-none table release pieces q r p = record {
   labels = λ i h. absurd (omega arith);
 }
 
-pub cutting-end : {ps : List (Run Mark)} {table release pieces : List ℕ} {q count i : ℕ} {flag touch : Bool}
-    → Cutting ps table q release pieces count i flag touch → q ≤ i → marks pieces 0 count ≡ present ps
+pub cutting-end : {ps : List (Run Piece)} {table release pieces : List ℕ} {q count i : ℕ} {flag touch : Bool}
+    → Cutting ps table q release pieces count i flag touch → q ≤ i → piecesOf pieces 0 count ≡ present ps
 cutting-end {ps} {table} {release} {pieces} {q} {count} {i} w h = rw (runs-end table i q h, append-nil) at (w .all)
 
 -- an interval whose owner has nothing to release
-pub cutting-pass : {ps : List (Run Mark)} {table release pieces pieces' : List ℕ} {q count i m : ℕ} {flag touch : Bool}
+pub cutting-pass : {ps : List (Run Piece)} {table release pieces pieces' : List ℕ} {q count i m : ℕ} {flag touch : Bool}
     → Cutting ps table q release pieces count i flag touch → i < q → at table i % 65536 < 256 → at release (at table i % 65536) ≡ 0
     → Put pieces count (at table i / 65536) (at table i % 65536) pieces' m → Cutting ps table q release pieces' m (i + 1) flag false
 cutting-pass {ps} {table} {release} {pieces} {pieces'} {q} {count} {i} {m} {flag} {touch} w h b z p =
@@ -78,7 +78,7 @@ cutting-pass {ps} {table} {release} {pieces} {pieces'} {q} {count} {i} {m} {flag
         go : (x t : ℕ) → x - t * 0 ≡ x
         go x t = omega arith
 
-module _ {ps : List (Run Mark)} {table release pieces : List ℕ} {q count i : ℕ} {flag touch : Bool} {c : Cut}
+module _ {ps : List (Run Piece)} {table release pieces : List ℕ} {q count i : ℕ} {flag touch : Bool} {c : Cut}
     (w : Cutting ps table q release pieces count i flag touch) (h : i < q) (few : q ≤ 4096) (b : at table i % 65536 < 256)
     (t : CutTo (at release (at table i % 65536)) (at table i / 65536) (side flag) touch c) where
   abbrev d : ℕ
@@ -87,7 +87,7 @@ module _ {ps : List (Run Mark)} {table release pieces : List ℕ} {q count i : �
   abbrev release' : List ℕ
   release' = set release d (at release d - c .gap)
 
-  abbrev later : List (Run Mark)
+  abbrev later : List (Run Piece)
   later = walk (at release') (side (c .flag)) (c .touch) (runs table (i + 1) (q - (i + 1)))
 
   walk-open : walk (at release) (side flag) touch (runs table i (q - i)) ≡ (c .front of kept d) ∷ (c .gap of taken d) ∷ (c .back of kept d) ∷ later

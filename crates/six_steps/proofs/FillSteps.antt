@@ -17,13 +17,13 @@ use lib.Dec.{eqb, ltb}
 use lib.ListN.{length, set, replicate, length-set}
 use borrow.Author.Tests.{eqb-true, eqb-false, ltb-true, ltb-false, lt-ltb, le-ltb}
 use Rattle.slicing.specs.Runs.{Run, _of_, total, expand, relabel, coalesce, Differs, Coalesced}
-use Rattle.slicing.specs.SixSteps.{Mark, kept, taken, Turn, _⟶_, sameTurn, fill}
+use Rattle.slicing.specs.SixSteps.{Piece, kept, taken, Turn, _⟶_, sameTurn, fill}
 use Rattle.slicing.proofs.Runs.{map-replicate, expand-relabel, coalesce-unique}
 use Rattle.slicing.proofs.Moves.{same-turn, self-turn}
 use Rattle.slicing.proofs.Walk.{takens}
 use Rattle.slicing_core.specs.Rows.{at}
 use Rattle.slicing_core.proofs.Points.{given, take-replicate, drop-replicate, expand-fill}
-use Rattle.six_steps.specs.Words.{room, runs, markOf, turnOf, marks, turnsOf, Labelled}
+use Rattle.six_steps.specs.Words.{room, runs, pieceOf, turnOf, piecesOf, turnsOf, Labelled}
 use Rattle.six_steps.specs.Stages.{Held, Pushed}
 use Rattle.six_steps.proofs.Words.{less-size, less-label, runs-step, runs-end, runs-first-write, labelled-set}
 use Rattle.six_steps.proofs.Pushing.{pushed-total}
@@ -65,16 +65,16 @@ coalesced-turn ((n of x) ∷ rs) h = (h .0, differs rs (h .1), coalesced-turn rs
 -- ---- a filling, one step at a time
 
 -- an empty piece
-given-none : (m : Mark) (ps : List (Run Mark)) (xs : List ℕ) → given ((0 of m) ∷ ps) xs ≡ given ps xs
+given-none : (m : Piece) (ps : List (Run Piece)) (xs : List ℕ) → given ((0 of m) ∷ ps) xs ≡ given ps xs
 given-none (kept d) ps xs = refl
 given-none (taken d) ps xs = refl
 
-takens-none : (m : Mark) (ps : List (Run Mark)) → total (takens ((0 of m) ∷ ps)) ≡ total (takens ps)
+takens-none : (m : Piece) (ps : List (Run Piece)) → total (takens ((0 of m) ∷ ps)) ≡ total (takens ps)
 takens-none (kept d) ps = refl
 takens-none (taken d) ps = omega arith
 
 -- the first row of the queue gets all that it needs
-given-whole : (d e n m : ℕ) (ps : List (Run Mark)) (xs : List ℕ) → m ≤ n
+given-whole : (d e n m : ℕ) (ps : List (Run Piece)) (xs : List ℕ) → m ≤ n
     → given ((n of taken d) ∷ ps) (replicate m e ++ xs) ≡ replicate m (d ⟶ e) ++ given ((n - m of taken d) ∷ ps) xs
 given-whole d e n m ps xs h =
     let s : min n m ≡ m = omega arith in
@@ -82,7 +82,7 @@ given-whole d e n m ps xs h =
     rw (take-replicate n m e xs, drop-replicate n m e xs, s, z, map-append, map-replicate, append-assoc)
 
 -- it gets the whole piece
-given-part : (d e n m : ℕ) (ps : List (Run Mark)) (xs : List ℕ) → n ≤ m
+given-part : (d e n m : ℕ) (ps : List (Run Piece)) (xs : List ℕ) → n ≤ m
     → given ((n of taken d) ∷ ps) (replicate m e ++ xs) ≡ replicate n (d ⟶ e) ++ given ps (replicate (m - n) e ++ xs)
 given-part d e n m ps xs h =
     let s : min n m ≡ n = omega arith in
@@ -97,8 +97,8 @@ module _ (ts : List (Run Turn)) (p n : ℕ) where
     pub queueSize : length queue ≡ 256
     pub size : length turns ≡ room
     pub coalesced : Coalesced eqb (runs turns 0 count)
-    pub points : map turnOf (expand (runs turns 0 count)) ++ given (marks pieces i (p - i)) (expand (runs queue j (n - j))) ≡ expand ts
-    pub enough : total (takens (marks pieces i (p - i))) ≤ total (runs queue j (n - j))
+    pub points : map turnOf (expand (runs turns 0 count)) ++ given (piecesOf pieces i (p - i)) (expand (runs queue j (n - j))) ≡ expand ts
+    pub enough : total (takens (piecesOf pieces i (p - i))) ≤ total (runs queue j (n - j))
     pub small : total (runs turns 0 count) + total (runs pieces i (p - i)) < 2 ^ 48
     pub fits : count + (p - i) + (n - j) ≤ p + n
     pub passed : i ≤ p
@@ -107,14 +107,14 @@ module _ (ts : List (Run Turn)) (p n : ℕ) where
     pub queued : Labelled 256 queue n
 
 pub filling-none : (pieces queue turns : List ℕ) (p n : ℕ) → length pieces ≡ room → length queue ≡ 256 → length turns ≡ room
-    → Labelled 512 pieces p → Labelled 256 queue n → total (takens (marks pieces 0 p)) ≤ total (runs queue 0 n) → total (runs pieces 0 p) < 2 ^ 48
-    → Filling (fill (marks pieces 0 p) (runs queue 0 n)) p n pieces queue turns 0 0 0
+    → Labelled 512 pieces p → Labelled 256 queue n → total (takens (piecesOf pieces 0 p)) ≤ total (runs queue 0 n) → total (runs pieces 0 p) < 2 ^ 48
+    → Filling (fill (piecesOf pieces 0 p) (runs queue 0 n)) p n pieces queue turns 0 0 0
 filling-none pieces queue turns p n a b c d e f g = record {
   pieceSize = a;
   queueSize = b;
   size = c;
   coalesced = tt;
-  points = rw (sub-zero p, sub-zero n) (sym (expand-fill (marks pieces 0 p) (runs queue 0 n)));
+  points = rw (sub-zero p, sub-zero n) (sym (expand-fill (piecesOf pieces 0 p) (runs queue 0 n)));
   enough = rw (sub-zero p, sub-zero n) f;
   small = rw (sub-zero p) (omega arith);
   fits = omega arith;
@@ -133,9 +133,9 @@ module _ {ts : List (Run Turn)} {p n : ℕ} {pieces queue turns : List ℕ} {cou
 
   -- k points with the turn x are written
   step : {turns' : List ℕ} {count' k x : ℕ} (pieces' queue' : List ℕ) (i' j' : ℕ) → Pushed turns count k x turns' count'
-      → given (marks pieces i (p - i)) (expand (runs queue j (n - j)))
-      ≡ replicate k (turnOf x) ++ given (marks pieces' i' (p - i')) (expand (runs queue' j' (n - j')))
-      → total (takens (marks pieces' i' (p - i'))) ≤ total (runs queue' j' (n - j'))
+      → given (piecesOf pieces i (p - i)) (expand (runs queue j (n - j)))
+      ≡ replicate k (turnOf x) ++ given (piecesOf pieces' i' (p - i')) (expand (runs queue' j' (n - j')))
+      → total (takens (piecesOf pieces' i' (p - i'))) ≤ total (runs queue' j' (n - j'))
       → total (runs pieces i (p - i)) ≡ k + total (runs pieces' i' (p - i'))
       → length pieces' ≡ room → length queue' ≡ 256 → i' ≤ p → j' ≤ n → p - i' + (n - j') + 1 ≤ p - i + (n - j)
       → Labelled 512 pieces' p → Labelled 256 queue' n → Filling ts p n pieces' queue' turns' count' i' j'
@@ -167,7 +167,7 @@ module _ {ts : List (Run Turn)} {p n : ℕ} {pieces queue turns : List ℕ} {cou
     abbrev row : ℕ
     row = at queue j % 65536
 
-    piece-here : (m : Mark) → markOf label ≡ m → marks pieces i (p - i) ≡ (size of m) ∷ marks pieces (i + 1) (p - (i + 1))
+    piece-here : (m : Piece) → pieceOf label ≡ m → piecesOf pieces i (p - i) ≡ (size of m) ∷ piecesOf pieces (i + 1) (p - (i + 1))
     piece-here m e = rw (runs-step pieces i p h, e)
 
     pub filling-small : size < 2 ^ 48
@@ -188,8 +188,8 @@ module _ {ts : List (Run Turn)} {p n : ℕ} {pieces queue turns : List ℕ} {cou
       queueSize = w .queueSize;
       size = w .size;
       coalesced = w .coalesced;
-      points = rw (piece-here (markOf label) refl, z, given-none) at (w .points);
-      enough = omega (arith, takens-none (markOf label) (marks pieces (i + 1) (p - (i + 1))), rw (piece-here (markOf label) refl, z) at (w .enough));
+      points = rw (piece-here (pieceOf label) refl, z, given-none) at (w .points);
+      enough = omega (arith, takens-none (pieceOf label) (piecesOf pieces (i + 1) (p - (i + 1))), rw (piece-here (pieceOf label) refl, z) at (w .enough));
       small = omega (arith, w .small, ap total (runs-step pieces i p h));
       fits = omega (arith, w .fits);
       passed = omega arith;
@@ -209,10 +209,10 @@ module _ {ts : List (Run Turn)} {p n : ℕ} {pieces queue turns : List ℕ} {cou
       abbrev old : ℕ
       old = label - 256
 
-      mark-here : markOf label ≡ taken old
+      mark-here : pieceOf label ≡ taken old
       mark-here = rw (le-ltb label 256 b)
 
-      enough-here : size + total (takens (marks pieces (i + 1) (p - (i + 1)))) ≤ total (runs queue j (n - j))
+      enough-here : size + total (takens (piecesOf pieces (i + 1) (p - (i + 1)))) ≤ total (runs queue j (n - j))
       enough-here = rw (piece-here (taken old) mark-here) at (w .enough)
 
       -- a row of the queue is left while a taken piece is
@@ -238,7 +238,7 @@ module _ {ts : List (Run Turn)} {p n : ℕ} {pieces queue turns : List ℕ} {cou
         filling-whole c f u =
             step pieces' queue i (j + 1) u
             (rw (piece-here (taken old) mark-here, runs-step queue j n l, cut-marks, turn-here)
-            (given-whole old row size need (marks pieces (i + 1) (p - (i + 1))) (expand (runs queue (j + 1) (n - (j + 1)))) (omega arith)))
+            (given-whole old row size need (piecesOf pieces (i + 1) (p - (i + 1))) (expand (runs queue (j + 1) (n - (j + 1)))) (omega arith)))
             (rw cut-marks (omega (arith, rw (runs-step queue j n l) at enough-here)))
             (omega (arith, ap total (runs-step pieces i p h), ap total cut-runs))
             (length-set pieces i (at pieces i - need * 65536) ∙ w .pieceSize) (w .queueSize) (w .passed) (omega arith) (omega arith)
@@ -253,7 +253,7 @@ module _ {ts : List (Run Turn)} {p n : ℕ} {pieces queue turns : List ℕ} {cou
                 runs-first-write pieces i p (at pieces i - need * 65536) h (omega (arith, w .pieceSize))
                 ∙ rw (less-size (at pieces i) need (omega arith), less-label (at pieces i) need (omega arith))
 
-            cut-marks : marks pieces' i (p - i) ≡ (size - need of taken old) ∷ marks pieces (i + 1) (p - (i + 1))
+            cut-marks : piecesOf pieces' i (p - i) ≡ (size - need of taken old) ∷ piecesOf pieces (i + 1) (p - (i + 1))
             cut-marks = rw (cut-runs, mark-here)
 
         -- it gets the whole piece
@@ -262,7 +262,7 @@ module _ {ts : List (Run Turn)} {p n : ℕ} {pieces queue turns : List ℕ} {cou
         filling-part c f u =
             step pieces queue' (i + 1) j u
             (rw (piece-here (taken old) mark-here, runs-step queue j n l, cut-runs, turn-here)
-            (given-part old row size need (marks pieces (i + 1) (p - (i + 1))) (expand (runs queue (j + 1) (n - (j + 1)))) (omega arith)))
+            (given-part old row size need (piecesOf pieces (i + 1) (p - (i + 1))) (expand (runs queue (j + 1) (n - (j + 1)))) (omega arith)))
             (rw cut-runs (omega (arith, rw (runs-step queue j n l) at enough-here)))
             (ap total (runs-step pieces i p h))
             (w .pieceSize) (length-set queue j (at queue j - size * 65536) ∙ w .queueSize) (omega arith) (w .used) (omega arith) (w .marked)

@@ -10,11 +10,11 @@ use lib.Dec.{eqb}
 use lib.ListN.{length, set, length-append, length-replicate, length-set}
 use borrow.Author.Tests.{ne-eqb}
 use Rattle.slicing.specs.Runs.{Run, _of_, total, relabel, Coalesced}
-use Rattle.slicing.specs.SixSteps.{Mark}
+use Rattle.slicing.specs.SixSteps.{Piece}
 use Rattle.slicing.proofs.Runs.{length-expand, relabel-append}
 use Rattle.slicing_core.specs.Rows.{at}
 use Rattle.slicing_core.proofs.Pushing.{expand-put, expand-more, coalesced-more, coalesced-put}
-use Rattle.six_steps.specs.Words.{room, runs, markOf, marks, present}
+use Rattle.six_steps.specs.Words.{room, runs, pieceOf, piecesOf, present}
 use Rattle.six_steps.specs.Stages.{Put, Held, Pushed}
 use Rattle.six_steps.proofs.Words.{word-size, word-label, more-size, more-label, runs-write, runs-last, runs-last-write, labelled-put}
 
@@ -42,12 +42,12 @@ module _ (xs : List ℕ) (n k x : ℕ) (size : length xs ≡ room) where
       there (suc k) p = refl
 
 -- a put as a step of a list of pieces
-pub put-marks : {xs ys : List ℕ} {n k x m : ℕ} (y : Mark) (rs : List (Run Mark)) → Put xs n k x ys m → markOf x ≡ y
-    → marks ys 0 m ++ present rs ≡ marks xs 0 n ++ present ((k of y) ∷ rs)
+pub put-marks : {xs ys : List ℕ} {n k x m : ℕ} (y : Piece) (rs : List (Run Piece)) → Put xs n k x ys m → pieceOf x ≡ y
+    → piecesOf ys 0 m ++ present rs ≡ piecesOf xs 0 n ++ present ((k of y) ∷ rs)
 put-marks {xs} {ys} {n} {k} {x} {m} y rs p e =
-    rw (p .all, relabel-append, append-assoc) (ap (λ r. marks xs 0 n ++ r) (go k))
+    rw (p .all, relabel-append, append-assoc) (ap (λ r. piecesOf xs 0 n ++ r) (go k))
   where
-    go : (k : ℕ) → relabel markOf (present ((k of x) ∷ [])) ++ present rs ≡ present ((k of y) ∷ rs)
+    go : (k : ℕ) → relabel pieceOf (present ((k of x) ∷ [])) ++ present rs ≡ present ((k of y) ∷ rs)
     go zero = refl
     go (suc k) = rw e
 

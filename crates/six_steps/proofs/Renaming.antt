@@ -11,7 +11,7 @@ use Prim.Native.Nat.{ℕ, zero, suc, _+_, _-_}
 use lib.Dec.{eqb}
 use borrow.Author.Tests.{eqb-true, eqb-false, eq-eqb, ne-eqb}
 use Rattle.slicing.specs.Runs.{Run, _of_, owned, expand, takePoints, dropPoints, relabel, push, coalesce}
-use Rattle.slicing.specs.SixSteps.{release, needs, Side, end, cut, Mark, kept, taken, less, walk, Turn, _⟶_, new, sameTurn, fill, turns, newTable, Move, move, movesFrom, moves}
+use Rattle.slicing.specs.SixSteps.{release, needs, Side, end, cut, Piece, kept, taken, less, walk, Turn, _⟶_, new, sameTurn, fill, turns, newTable, Move, move, movesFrom, moves}
 use Rattle.slicing.proofs.Runs.{relabel-append, relabel-relabel}
 use Rattle.six_steps.specs.Words.{present}
 use Rattle.six_steps.proofs.Composition.{newTable-coalesce}
@@ -45,7 +45,7 @@ module _ {A B : Type 0} (g : A → B) where
 
 -- ---- the six steps
 
-abbrev markAs : (ℕ → ℕ) → Mark → Mark
+abbrev markAs : (ℕ → ℕ) → Piece → Piece
 markAs f (kept d) = kept (f d)
 markAs f (taken d) = taken (f d)
 
@@ -83,7 +83,7 @@ module _ (f : ℕ → ℕ) (apart : (x y : ℕ) → f x ≡ f y → x ≡ y) whe
         walk-rename (less r d (c .gap)) (less s (f d) (c .gap)) (λ e. rw (h e, eqb-rename e d)) (c .flag) (c .touch) rs,
       )
 
-  fill-rename : (ps : List (Run Mark)) (q : List (Run ℕ)) → fill (relabel (markAs f) ps) (relabel f q) ≡ relabel (turnAs f) (fill ps q)
+  fill-rename : (ps : List (Run Piece)) (q : List (Run ℕ)) → fill (relabel (markAs f) ps) (relabel f q) ≡ relabel (turnAs f) (fill ps q)
   fill-rename [] q = refl
   fill-rename ((n of kept d) ∷ ps) q = rw (fill-rename ps q)
   fill-rename ((n of taken d) ∷ ps) q =

@@ -3,9 +3,9 @@
 --   room                how many runs an array has room for
 --   runs xs i n         n runs of xs from place i
 --   Labelled k xs n     the labels of the first n runs are below k
---   markOf x            the label of a piece: its owner, and 256 more where it is taken
+--   pieceOf x            the label of a piece: its owner, and 256 more where it is taken
 --   turnOf x            the label of a turn: old × 256 + new
---   marks xs i n        n pieces
+--   piecesOf xs i n        n pieces
 --   turnsOf xs i n      n turns
 --   byRow xs i n        a run for each row from i on: so many points of xs
 --   present rs          the runs that are not empty
@@ -14,7 +14,7 @@ use mathlib.Core.List.{List, [], _∷_}
 use Prim.Native.Nat.{ℕ, zero, suc, _-_, _/_, _%_, _<_}
 use lib.Dec.{ltb}
 use Rattle.slicing.specs.Runs.{Run, _of_, relabel}
-use Rattle.slicing.specs.SixSteps.{Mark, kept, taken, Turn, _⟶_}
+use Rattle.slicing.specs.SixSteps.{Piece, kept, taken, Turn, _⟶_}
 use Rattle.slicing_core.specs.Rows.{at}
 
 abbrev pub room : ℕ
@@ -27,14 +27,14 @@ runs xs i (suc n) = (at xs i / 65536 of at xs i % 65536) ∷ runs xs (suc i) n
 abbrev pub Labelled : ℕ → List ℕ → ℕ → Type 0
 Labelled k xs n = (i : ℕ) → i < n → at xs i % 65536 < k
 
-abbrev pub markOf : ℕ → Mark
-markOf x = cond (ltb x 256) (kept x) (taken (x - 256))
+abbrev pub pieceOf : ℕ → Piece
+pieceOf x = cond (ltb x 256) (kept x) (taken (x - 256))
 
 abbrev pub turnOf : ℕ → Turn
 turnOf x = (x / 256) ⟶ (x % 256)
 
-abbrev pub marks : List ℕ → ℕ → ℕ → List (Run Mark)
-marks xs i n = relabel markOf (runs xs i n)
+abbrev pub piecesOf : List ℕ → ℕ → ℕ → List (Run Piece)
+piecesOf xs i n = relabel pieceOf (runs xs i n)
 
 abbrev pub turnsOf : List ℕ → ℕ → ℕ → List (Run Turn)
 turnsOf xs i n = relabel turnOf (runs xs i n)

@@ -1,6 +1,9 @@
 // Steps 2 to 4: the old table cut into pieces, kept or taken.
+use crate::runs::LABELS;
 use crate::runs::ROOM;
+use crate::runs::TAKEN;
 use crate::runs::put;
+use slicing::MAX_DEVICES;
 use slicing_core::cuts::cut_interval;
 ghost use mathlib.Core.Path.{_≡_};
 ghost use mathlib.Core.Bool.{false};
@@ -9,19 +12,19 @@ ghost use lib.ListN.{length};
 ghost use Rattle.slicing.specs.Runs.{total};
 ghost use Rattle.slicing.specs.SixSteps.{end, walk};
 ghost use Rattle.slicing_core.specs.Rows.{at};
-ghost use Rattle.six_steps.specs.Words.{runs, marks, present, room, Labelled};
+ghost use Rattle.six_steps.specs.Words.{runs, piecesOf, present, room, Labelled};
 
 // The pieces of the q runs of the table that are not empty. `release` has what each owner must release
 // and is used up.
 pub fn cut(
     table: &[u64; ROOM],
     q: usize,
-    release: &mut [u64; 256],
+    release: &mut [u64; MAX_DEVICES],
     pieces: &mut [u64; ROOM],
 ) -> usize
     requires { ⌜ (q ≤ 4096) × Labelled 256 (now table) q × (total (runs (now table) 0 q) < 2 ^ 48) ⌝ }
     requires { ⌜ (length (now release) ≡ 256) × (length (now pieces) ≡ room) ⌝ }
-    ensures pieces { λ r. ⌜ marks (now (pieces .exit)) 0 r ≡ present (walk (at (now (release .entry))) end false (runs (now (table .entry)) 0 q)) ⌝ }
+    ensures pieces { λ r. ⌜ piecesOf (now (pieces .exit)) 0 r ≡ present (walk (at (now (release .entry))) end false (runs (now (table .entry)) 0 q)) ⌝ }
     ensures few { λ r. ⌜ (r ≤ 2 * q) × Labelled 512 (now (pieces .exit)) r × (length (now (pieces .exit)) ≡ room) ⌝ }
 {
     let mut count = 0;
@@ -29,8 +32,8 @@ pub fn cut(
     let mut touch = false;
     let mut i = 0;
     while i < q {
-        let size = table[i] / 65536;
-        let owner = table[i] % 65536;
+        let size = table[i] / LABELS;
+        let owner = table[i] % LABELS;
         let row = owner as usize;
         let have = release[row];
         if have == 0 {
@@ -42,7 +45,7 @@ pub fn cut(
             let left = have - c.gap;
             release[row] = left;
             count = put(&mut *pieces, count, c.front, owner);
-            count = put(&mut *pieces, count, c.gap, owner + 256);
+            count = put(&mut *pieces, count, c.gap, owner + TAKEN);
             count = put(&mut *pieces, count, c.back, owner);
             flag = c.flag;
             touch = c.touch;

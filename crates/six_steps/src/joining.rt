@@ -1,5 +1,7 @@
 // Step 6: the joined new table; and the number of moves.
+use crate::runs::LABELS;
 use crate::runs::ROOM;
+use crate::runs::ROWS;
 use crate::runs::push;
 ghost use mathlib.Core.Path.{_≡_};
 ghost use Prim.Native.Nat.{_%_, _≤_, _<_, _^_};
@@ -18,9 +20,9 @@ pub fn new_table(turns: &[u64; ROOM], t: usize, table: &mut [u64; ROOM]) -> usiz
     let mut count = 0;
     let mut i = 0;
     while i < t {
-        let size = turns[i] / 65536;
-        let turn = turns[i] % 65536;
-        count = push(&mut *table, count, size, turn % 256);
+        let size = turns[i] / LABELS;
+        let turn = turns[i] % LABELS;
+        count = push(&mut *table, count, size, turn % ROWS);
         i += 1;
     }
     count
@@ -34,8 +36,8 @@ pub fn count_moves(turns: &[u64; ROOM], t: usize) -> usize
     let mut count = 0;
     let mut i = 0;
     while i < t {
-        let turn = turns[i] % 65536;
-        if turn / 256 != turn % 256 {
+        let turn = turns[i] % LABELS;
+        if turn / ROWS != turn % ROWS {
             count += 1;
         }
         i += 1;

@@ -5,6 +5,7 @@ use crate::joining::count_moves;
 use crate::joining::new_table;
 use crate::quotas::quotas;
 use crate::runs::ROOM;
+use slicing::MAX_DEVICES;
 ghost use mathlib.Core.Path.{_≡_};
 ghost use Prim.Native.Nat.{_≤_, _<_, _^_};
 ghost use lib.ListN.{length};
@@ -27,8 +28,8 @@ pub struct Done {
 pub fn steps(
     work: &mut [u64; ROOM],
     q: usize,
-    has: &[u64; 256],
-    due: &[u64; 256],
+    has: &[u64; MAX_DEVICES],
+    due: &[u64; MAX_DEVICES],
     n: usize,
     next: &mut [u64; ROOM],
 ) -> Done
@@ -37,8 +38,8 @@ pub fn steps(
     requires { ⌜ (length (now work) ≡ room) × (length (now next) ≡ room) ⌝ }
     ensures { λ r. ⌜ Stepped (runs (now (work .entry)) 0 q) (byRow (now (has .entry)) 0 n) (byRow (now (due .entry)) 0 n) n (now (work .exit)) (now (next .exit)) r ⌝ }
 {
-    let mut release = [0u64; 256];
-    let mut queue = [0u64; 256];
+    let mut release = [0u64; MAX_DEVICES];
+    let mut queue = [0u64; MAX_DEVICES];
     let moved = quotas(has, due, n, &mut release, &mut queue);
     let pieces = cut(work, q, &mut release, &mut *next);
     let turns = fill(&mut *next, pieces, &mut queue, n, &mut *work);

@@ -15,7 +15,7 @@ use lib.Dec.{eqb}
 use lib.ListN.{length}
 use borrow.Author.Tests.{eqb-true, eq-eqb, ne-eqb}
 use Rattle.slicing.specs.Runs.{Run, _of_, one, total, owned, expand, count, relabel}
-use Rattle.slicing.specs.SixSteps.{release, needs, reductions, end, Mark, walk, old, new, turns, newTable}
+use Rattle.slicing.specs.SixSteps.{release, needs, reductions, end, Piece, walk, old, new, turns, newTable}
 use Rattle.slicing.proofs.Counting.{sumOf, Distinct, sum-eq}
 use Rattle.slicing.proofs.Filling.{changing, expand-old-fill, owned-new-fill, changing-fill}
 use Rattle.slicing.proofs.Runs.{owners, length-expand, count-expand, owned-append, owned-absent, total-append, total-owned, sum-owned, total-relabel, owned-coalesce}
@@ -70,7 +70,7 @@ sum-reductions ((s of d) ∷ has) due u =
     others e k = rw (ne-eqb e d (λ p. omega (arith, gone, ap (λ z. count z (owners has)) p))) (omega arith)
 
 module _ (table has due : List (Run ℕ)) (h : Balanced table has due) where
-  abbrev pieces : List (Run Mark)
+  abbrev pieces : List (Run Piece)
   pieces = walk (release has due) end false table
 
   -- the walk releases exactly the reductions

@@ -14,10 +14,10 @@ use lib.ListN.{take, drop, replicate, length-replicate, replicate-append-replica
 use lib.Seq.{take-nil, drop-nil, take-at, drop-at, take-append-add, drop-append-add}
 use borrow.Author.Tests.{leb-true, leb-false}
 use Rattle.slicing.specs.Runs.{Run, _of_, expand, takePoints, dropPoints}
-use Rattle.slicing.specs.SixSteps.{Mark, kept, taken, Turn, _⟶_, fill}
+use Rattle.slicing.specs.SixSteps.{Piece, kept, taken, Turn, _⟶_, fill}
 use Rattle.slicing.proofs.Runs.{expand-append, expand-relabel}
 
-abbrev pub given : List (Run Mark) → List ℕ → List Turn
+abbrev pub given : List (Run Piece) → List ℕ → List Turn
 given [] xs = []
 given ((n of kept d) ∷ ps) xs = replicate n (d ⟶ d) ++ given ps xs
 given ((n of taken d) ∷ ps) xs = map (λ e. d ⟶ e) (take n xs) ++ given ps (drop n xs)
@@ -74,7 +74,7 @@ module _ {A : Type 0} where
   expand-dropPoints k [] = sym (drop-nil k)
   expand-dropPoints k ((n of x) ∷ rs) = rw (drop-replicate, expand-dropPoints (k - n) rs)
 
-pub expand-fill : (ps : List (Run Mark)) (q : List (Run ℕ)) → expand (fill ps q) ≡ given ps (expand q)
+pub expand-fill : (ps : List (Run Piece)) (q : List (Run ℕ)) → expand (fill ps q) ≡ given ps (expand q)
 expand-fill [] q = refl
 expand-fill ((n of kept d) ∷ ps) q = rw (expand-fill ps q)
 expand-fill ((n of taken d) ∷ ps) q =

@@ -4,7 +4,7 @@
 --   deleted xs p k        what stands there once the row at p is gone
 --
 -- inserted: inserted-before, inserted-here, inserted-after; deleted: deleted-before, deleted-after
--- Filling: filled-inserted, filled-deleted
+-- FilledTo: filled-inserted, filled-deleted
 use mathlib.Core.Path.{_≡_, refl, _∙_}
 use mathlib.Core.Bool.{cond}
 use mathlib.Core.List.{List}
@@ -14,7 +14,7 @@ use lib.Dec.{eqb, ltb}
 use borrow.Author.Tests.{lt-ltb, le-ltb, eq-eqb, ne-eqb}
 use Rattle.slicing_core.specs.Rows.{at}
 use Rattle.slicing_core.specs.Stages.{Inserted, Deleted}
-use Rattle.slicing_core.proofs.Fills.{Filling}
+use Rattle.slicing_core.proofs.FilledArrays.{FilledTo}
 
 abbrev pub inserted : List ℕ → ℕ → ℕ → ℕ → ℕ
 inserted xs p v k = cond (ltb k p) (at xs k) (cond (eqb k p) v (at xs (k - 1)))
@@ -39,7 +39,7 @@ module _ (xs : List ℕ) {p k : ℕ} where
   pub deleted-after : p ≤ k → deleted xs p k ≡ at xs (k + 1)
   deleted-after l = rw (le-ltb k p l)
 
-pub filled-inserted : {xs r : List ℕ} {p v : ℕ} → p < 256 → Filling (inserted xs p v) r 256 → Inserted xs p v r
+pub filled-inserted : {xs r : List ℕ} {p v : ℕ} → p < 256 → FilledTo (inserted xs p v) r 256 → Inserted xs p v r
 filled-inserted {xs} {r} {p} {v} b h = record {
   size = h .size;
   before = λ k l. h .done k (omega arith) ∙ inserted-before xs v l;
@@ -49,7 +49,7 @@ filled-inserted {xs} {r} {p} {v} b h = record {
       h .done (k + 1) m ∙ inserted-after xs v {k = k + 1} (omega arith) (λ z. omega arith) ∙ rw e;
 }
 
-pub filled-deleted : {xs r : List ℕ} {p : ℕ} → p < 256 → Filling (deleted xs p) r 255 → Deleted xs p r
+pub filled-deleted : {xs r : List ℕ} {p : ℕ} → p < 256 → FilledTo (deleted xs p) r 255 → Deleted xs p r
 filled-deleted {xs} {r} {p} b h = record {
   size = h .size;
   before = λ k l. h .done k (omega arith) ∙ deleted-before xs l;

@@ -1,18 +1,15 @@
--- Arrays as lists of runs, devices and moves: how the stages' arrays are read.
+-- Arrays as lists of runs, devices and intervals: how the code's arrays are read.
 --
 --   at xs i                 what stands at place i, 0 past the end
 --   rows s l i n            n runs from place i: sizes in s, labels in l
 --   deviceRows d c i n      n devices from place i: ids in d, capacities in c
---   turnOf x                a turn as one number, old × 65,536 + new
---   moveRows p s l i n      n moves from place i: starts in p, sizes in s, turns in l
 --   tableRows p o R i n     n intervals from place i as runs: starts in p, owners in o; each runs to the next start, the last to R
 --   intervalRows p o R i n  the same as intervals
 use mathlib.Core.List.{List, [], _∷_}
-use Prim.Native.Nat.{ℕ, zero, suc, _-_, _/_, _%_}
+use Prim.Native.Nat.{ℕ, zero, suc, _-_}
 use lib.ListN.{getD}
 use Rattle.slicing.specs.Devices.{Device, device}
 use Rattle.slicing.specs.Runs.{Run, _of_, Interval}
-use Rattle.slicing.specs.SixSteps.{Turn, _⟶_, Move, move}
 
 abbrev pub at : List ℕ → ℕ → ℕ
 at xs i = getD xs i 0
@@ -24,13 +21,6 @@ rows s l i (suc n) = (at s i of at l i) ∷ rows s l (suc i) n
 abbrev pub deviceRows : List ℕ → List ℕ → ℕ → ℕ → List Device
 deviceRows d c i zero = []
 deviceRows d c i (suc n) = device (at d i) (at c i) ∷ deviceRows d c (suc i) n
-
-abbrev pub turnOf : ℕ → Turn
-turnOf x = (x / 65536) ⟶ (x % 65536)
-
-abbrev pub moveRows : List ℕ → List ℕ → List ℕ → ℕ → ℕ → List Move
-moveRows p s l i zero = []
-moveRows p s l i (suc n) = move (at p i) (at s i) (at l i / 65536) (at l i % 65536) ∷ moveRows p s l (suc i) n
 
 abbrev pub tableRows : List ℕ → List ℕ → ℕ → ℕ → ℕ → List (Run ℕ)
 tableRows p o R i zero = []

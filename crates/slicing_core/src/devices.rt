@@ -1,12 +1,15 @@
 // Rows of devices, by rising id.
+use slicing::MAX_CAPACITY;
+use slicing::MAX_DEVICES;
+use slicing::MAX_ID;
 ghost use mathlib.Core.Bool.{true};
 ghost use Prim.Native.Nat.{_+_, _-_, _≤_, _<_};
 ghost use Rattle.slicing.specs.Devices.{Rising};
 ghost use Rattle.slicing_core.specs.Rows.{deviceRows};
-ghost use Rattle.slicing_core.specs.Stages.{Decides, Inserted, Deleted, Position};
+ghost use Rattle.slicing_core.specs.Stages.{Decides, Inserted, Deleted};
 
 // Whether the n devices are within their limits and their ids rise.
-pub fn rising(ids: &[u64; 256], capacities: &[u64; 256], n: usize) -> bool
+pub fn rising(ids: &[u64; MAX_DEVICES], capacities: &[u64; MAX_DEVICES], n: usize) -> bool
     requires { ⌜ n ≤ 256 ⌝ }
     ensures { λ r. ⌜ Decides r (Rising 0 (deviceRows (now (ids .entry)) (now (capacities .entry)) 0 n)) ⌝ }
 {
@@ -18,13 +21,13 @@ pub fn rising(ids: &[u64; 256], capacities: &[u64; 256], n: usize) -> bool
         if id <= last {
             return false;
         }
-        if id > 65535 {
+        if id > MAX_ID {
             return false;
         }
         if capacity < 1 {
             return false;
         }
-        if capacity > 1000000 {
+        if capacity > MAX_CAPACITY {
             return false;
         }
         last = id;
@@ -33,29 +36,14 @@ pub fn rising(ids: &[u64; 256], capacities: &[u64; 256], n: usize) -> bool
     true
 }
 
-// How many of the ids, from the first on, are below `id`.
-pub fn position(ids: &[u64; 256], n: usize, id: u64) -> usize
-    requires { ⌜ n ≤ 256 ⌝ }
-    ensures { λ r. ⌜ Position (now (ids .entry)) n id r ⌝ }
-{
-    let mut i = 0;
-    while i < n {
-        if ids[i] >= id {
-            return i;
-        }
-        i += 1;
-    }
-    i
-}
-
 // The rows with `value` at place p, those from there on moved up by one, the last one dropped.
-pub fn insert_row(rows: &[u64; 256], p: usize, value: u64) -> [u64; 256]
+pub fn insert_row(rows: &[u64; MAX_DEVICES], p: usize, value: u64) -> [u64; MAX_DEVICES]
     requires { ⌜ p < 256 ⌝ }
     ensures { λ r. ⌜ Inserted (now (rows .entry)) p value r ⌝ }
 {
-    let mut into = [0u64; 256];
+    let mut into = [0u64; MAX_DEVICES];
     let mut i = 0;
-    while i < 256 {
+    while i < MAX_DEVICES {
         if i < p {
             into[i] = rows[i];
         } else {
@@ -71,11 +59,11 @@ pub fn insert_row(rows: &[u64; 256], p: usize, value: u64) -> [u64; 256]
 }
 
 // The rows without that at place p, those after it moved down by one, and 0 at the end.
-pub fn delete_row(rows: &[u64; 256], p: usize) -> [u64; 256]
+pub fn delete_row(rows: &[u64; MAX_DEVICES], p: usize) -> [u64; MAX_DEVICES]
     requires { ⌜ p < 256 ⌝ }
     ensures { λ r. ⌜ Deleted (now (rows .entry)) p r ⌝ }
 {
-    let mut into = [0u64; 256];
+    let mut into = [0u64; MAX_DEVICES];
     let mut i = 0;
     while i < 255 {
         if i < p {

@@ -6,7 +6,7 @@
 use super::history;
 use super::image;
 use super::lookup::{self, Copies, Tally};
-use super::pool::{Changed, Pool};
+use super::pool::{shares, Changed, Pool};
 
 pub const TRANSCRIPT_ROOM: usize = 3_145_728;
 
@@ -37,6 +37,41 @@ pub fn transcript(text: &[u8], out: &mut [u8], answer: &mut [u64]) -> u32 {
         }
         Ok([put(history::transcript(text).as_bytes(), out)?])
     })
+}
+
+pub fn numbers(bytes: &[u8], answer: &mut [u64]) -> u32 {
+    answered(answer, || {
+        let pool = image::read(bytes)?;
+        Ok([pool.range, pool.limit, pool.devices.len() as u64, pool.table.len() as u64])
+    })
+}
+
+pub fn share(bytes: &[u8], id: u64, answer: &mut [u64]) -> u32 {
+    answered(answer, || Ok([image::read(bytes)?.share(id)?]))
+}
+
+pub fn devices(bytes: &[u8], rows: &mut [u64]) -> u32 {
+    listed(bytes, rows, |pool| {
+        let shares = shares(pool.range, &pool.devices);
+        pool.devices.iter().zip(shares).flat_map(|(d, share)| [d.id, d.capacity, share]).collect()
+    })
+}
+
+pub fn intervals(bytes: &[u8], rows: &mut [u64]) -> u32 {
+    listed(bytes, rows, |pool| pool.table.iter().flat_map(|i| [i.start, i.length, i.owner]).collect())
+}
+
+/// The rows of a pool, or a number; then the rows stay.
+fn listed(bytes: &[u8], rows: &mut [u64], of: impl FnOnce(&Pool) -> Vec<u64>) -> u32 {
+    let numbers = match image::read(bytes) {
+        Ok(pool) => of(&pool),
+        Err(number) => return number,
+    };
+    if rows.len() < numbers.len() {
+        return 17;
+    }
+    rows[..numbers.len()].copy_from_slice(&numbers);
+    0
 }
 
 pub fn add(

@@ -88,6 +88,14 @@ impl Pool {
         ids.zip(shares(self.range, &self.devices)).collect()
     }
 
+    /// The share of one device, or 2 or 5.
+    pub fn share(&self, id: u64) -> Result<u64, u32> {
+        if !id_allowed(id) {
+            return Err(2);
+        }
+        self.share_of_id().get(&id).copied().ok_or(5)
+    }
+
     pub fn add(&self, id: u64, capacity: u64, places: usize) -> Result<Changed, u32> {
         if !id_allowed(id) || !capacity_allowed(capacity) {
             return Err(2);

@@ -2,7 +2,7 @@
 use mathlib.Core.List.{[], _∷_}
 use native.Mathlib.Omega.{arith}
 use borrow.Author.Needs.{needs}
-use Rattle.history_lines.specs.Text.{space}
+use Rattle.history_numbers.specs.Text.{space}
 use Rattle.history_printing.proofs.PutBehind.{fields-behind, length-end, length-four}
 use Rattle.history_printing.proofs.put_line.Statement.{statement}
 use Rattle.history_printing.proofs.put_line.Tie as tie

@@ -5,7 +5,7 @@ use native.Mathlib.Omega.{arith}
 use lib.ListN.{take}
 use lib.Seq.{slice}
 use Rattle.lookup_core.specs.Probes.{member}
-use Rattle.lookup_core.proofs.ProbeWalks.{member-here, member-next, member-end}
+use Rattle.lookup_core.proofs.ProbeSteps.{member-here, member-next, member-end}
 use Rattle.lookup_core.proofs.chosen.Statement.{statement}
 use Rattle.lookup_core.proofs.chosen.Tie as tie
 

@@ -31,10 +31,10 @@ use denote.Triple.Spec.{Meets, tripleOf}
 use denote.Triple.Table.{entered, cited}
 use denote.Triple.Walked.{says, Stays, stay-none-ref, stay-none, walkOf, goes-none-ref, goes-none, ends-at, walked, walk-meets}
 use denote.Exit.{yes}
-use Rattle.walks.proofs.Plainly.{calls-plain}
-use Rattle.placement.specs.declared.Pool.{Pool}
-use Rattle.placement.proofs.Pool as P
-use Rattle.placement.proofs.Pool.Laws as P′
+use Rattle.by_hand.proofs.Plainly.{calls-plain}
+use Rattle.pools.specs.declared.Pool.{Pool}
+use Rattle.pools.proofs.Pool as P
+use Rattle.pools.proofs.Pool.Laws as P′
 use Rattle.lookups.specs.Promises.{Copied}
 use Rattle.lookups.specs.declared.CopiesAnswer.{CopiesAnswer}
 use Rattle.lookups.specs.declared.Counters.{Counters}

@@ -5,7 +5,7 @@ use Prim.Native.Nat.{ℕ, min}
 use native.Mathlib.Omega.{arith}
 use borrow.Author.Needs.{needs}
 use borrow.Author.Tests.{lt-ltb, le-ltb}
-use Rattle.lookup_core.specs.Walks.{Walked}
+use Rattle.lookup_core.specs.Probing.{ProbesAnswered}
 use Rattle.slicing.specs.Limits.{maxRange}
 use Rattle.lookups.proofs.CopyAnswers.{refuses-eleven, refuses-ten, refuses-twelve, accepts}
 use Rattle.lookups.specs.declared.Counters.{Counters}
@@ -39,17 +39,17 @@ returns-3 c =
 capped : (c : tie.Joined4) → c .if4 .most ≡ min (c .before .before .before .before .args .range) maxRange
 capped c = ⊎-elim (λ w. omega (arith, w .0 .taken, w .1)) (λ w. omega (arith, w .0 .left, w .1)) (c .if4 .came)
 
-walk-probes-requires : tie.Need-walk-probes-requires
-walk-probes-requires c κs =
+probe-owners-requires : tie.Need-probe-owners-requires
+probe-owners-requires c κs =
     (c .before .before .before .if1 .left, c .before .before .if2 .left, omega (arith, capped c))
 
-walked : (c : tie.After-walk-probes) →
+walked : (c : tie.After-probe-owners) →
     let a = c .before .before .before .before .before .args in
-    Walked (a .starts .now) (a .owners .now) (a .intervals) (min (a .range) maxRange) (a .block) (a .k) (c .walk-probes .result)
+    ProbesAnswered (a .starts .now) (a .owners .now) (a .intervals) (min (a .range) maxRange) (a .block) (a .k) (c .probe-owners .result)
 walked c =
     let a = c .before .before .before .before .before .args in
-    subst (λ m. Walked (a .starts .now) (a .owners .now) (a .intervals) m (a .block) (a .k) (c .walk-probes .result)) (capped (c .before))
-    (c .walk-probes .ensures)
+    subst (λ m. ProbesAnswered (a .starts .now) (a .owners .now) (a .intervals) m (a .block) (a .k) (c .probe-owners .result)) (capped (c .before))
+    (c .probe-owners .ensures)
 
 returns-4 : tie.Need-returns-4
 returns-4 c =
@@ -57,7 +57,7 @@ returns-4 c =
     let w = c .before .before .before in
     let n = w .before .before in
     refuses-twelve (a .starts .now) (a .owners .now) (a .intervals) (a .devices) (a .range) (a .block) (a .k) (a .counters)
-    (w .walk-probes .result) (c .refused4 .result)
+    (w .probe-owners .result) (c .refused4 .result)
     (n .before .before .if1 .left) (n .before .if2 .left) (n .if3 .left) (walked w) (c .before .if5 .taken) (c .refused4 .ensures)
 
 abbrev Equal : Counters → Counters → Type 0
@@ -70,7 +70,7 @@ returns-5 c =
     let w = e .before .before in
     let n = w .before .before in
     accepts (a .starts .now) (a .owners .now) (a .intervals) (a .devices) (a .range) (a .block) (a .k) (a .counters)
-    (w .walk-probes .result) _
+    (w .probe-owners .result) _
     (n .before .before .if1 .left) (n .before .if2 .left) (n .if3 .left) (walked w) (e .if5 .left)
     (refl, refl, refl, same (c .before .raised .ensures) (c .raised2 .ensures))
   where
@@ -87,7 +87,7 @@ copies-in-spec =
     returns-2
     (λ c κs. search needs)
     returns-3
-    walk-probes-requires
+    probe-owners-requires
     (λ c κs. search needs)
     returns-4
     (λ c κs. search needs)

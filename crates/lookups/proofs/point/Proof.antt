@@ -1,4 +1,4 @@
--- `lookups::point` meets its contract: the tests are those of `strange`, in their order.
+-- `lookups::point` meets its contract: the tests are those of `probeOutside`, in their order.
 use mathlib.Core.Path.{ap}
 use native.Mathlib.Omega.{arith}
 use borrow.Author.Needs.{needs}

@@ -1,6 +1,6 @@
 -- `gorvyts::making::gorvyts_check` meets its contract.
 use borrow.Author.Needs.{needs}
-use Rattle.gorvyts.proofs.OnImages.{on-image-number}
+use Rattle.images.proofs.OnImages.{on-image-number}
 use Rattle.gorvyts.proofs.making.gorvyts_check.Statement.{statement}
 use Rattle.gorvyts.proofs.making.gorvyts_check.Tie as tie
 

@@ -1,5 +1,6 @@
 -- `gorvyts::making::store` meets its contract.
 use borrow.Author.Needs.{needs}
+use Rattle.pools.specs.Pools.{stateOf}
 use Rattle.gorvyts.proofs.StoredPools.{stored-whole, stored-none}
 use Rattle.gorvyts.proofs.making.store.Statement.{statement}
 use Rattle.gorvyts.proofs.making.store.Tie as tie
@@ -10,8 +11,8 @@ returns c =
     let v = put .before .before .before in
     let w = v .before .before .before .before in
     let s = w .before .before .before .before in
-    stored-whole (s .args .pool) (s .pre .0) (s .args .image .now) _ (s .args .answer .now) _ _ _ (w .write .ensures) (v .size .given .1)
-    (put .put1 .ensures)
+    stored-whole (stateOf (s .args .pool)) (s .args .image .now) _ (s .args .answer .now) _ _ _ (w .store .ensures .0) (w .store .ensures .1)
+    (v .size .given .1) (put .put1 .ensures)
 
 returns-2 : tie.Need-returns-2
 returns-2 c =
@@ -19,8 +20,8 @@ returns-2 c =
     let v = put .before .before .before in
     let w = v .before .before .before .before in
     let s = w .before .before .before .before in
-    stored-none (s .args .pool) (s .pre .0) (s .args .image .now) _ (s .args .answer .now) _ _ _ (w .write .ensures) (v .refusal .given .1)
-    (put .put12 .ensures)
+    stored-none (stateOf (s .args .pool)) (s .args .image .now) _ (s .args .answer .now) _ _ _ (w .store .ensures .0) (w .store .ensures .1)
+    (v .refusal .given .1) (put .put12 .ensures)
 
 pub store-spec : {M : Type 1} → statement M
 store-spec =

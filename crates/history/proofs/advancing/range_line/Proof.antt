@@ -12,7 +12,7 @@ returns c = λ table w.
 returns-2 : tie.Need-returns-2
 returns-2 c = λ table w.
     let a = c .before .before .args in
-    advanced-first (a .begun) (a .pool) table (a .range) (a .limit) (c .before .if1 .left) (c .fresh .result) (c .fresh .ensures table (w .tableSize))
+    advanced-first (a .begun) (a .pool) table (a .range) (a .limit) (c .before .if1 .left) (c .without-devices .result) (c .without-devices .ensures table (w .tableSize))
 
 pub range-line-spec : {M : Type 1} → statement M
 range-line-spec = tie.close (tie.spec (λ c κs. search needs) returns (λ c κs. search needs) returns-2)

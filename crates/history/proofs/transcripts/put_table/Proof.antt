@@ -1,7 +1,7 @@
 -- `history::transcripts::put_table` meets its contract: the line `table`, then the rows.
 use native.Mathlib.Omega.{arith}
 use borrow.Author.Needs.{needs}
-use Rattle.placement.proofs.ValidParts.{valid-limited, valid-coalesced}
+use Rattle.pools.proofs.ValidParts.{valid-limited, valid-coalesced}
 use Rattle.history.proofs.PrintedTables.{table-place, table-put}
 use Rattle.history.proofs.transcripts.put_table.Statement.{statement}
 use Rattle.history.proofs.transcripts.put_table.Tie as tie

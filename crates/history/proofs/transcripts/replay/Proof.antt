@@ -11,7 +11,7 @@ use Rattle.history.specs.Advances.{readingIn}
 use Rattle.history.specs.Replay.{Result}
 use Rattle.history.proofs.AdvancedLines.{line-refused}
 use Rattle.history.proofs.OpenReadings.{Ready, start-ready, start-reading, ready-as, reading-as}
-use Rattle.history.proofs.Replaying.{Replaying, told-refused, told-advanced, replaying-none, replaying-room, replaying-step, replaying-table, replaying-end, closed-valid}
+use Rattle.history.proofs.Replaying.{Replaying, gives-refused, gives-advanced, replaying-none, replaying-room, replaying-step, replaying-table, replaying-end, closed-valid}
 use Rattle.history.proofs.transcripts.replay.Statement.{statement}
 use Rattle.history.proofs.transcripts.replay.Tie as tie
 
@@ -22,13 +22,13 @@ Inv-loop text out₀ table₀ work₀ next₀ begun₀ pool₀ line₀ from₀ p
 abbrev μ-loop : tie.MeasureT-loop
 μ-loop text out₀ table₀ work₀ next₀ begun₀ pool₀ line₀ from₀ place₀ out table work next begun pool line from place = length text - from
 
-fresh-requires : tie.Need-fresh-requires Inv-loop μ-loop
-fresh-requires c κs = refl
+without-devices-requires : tie.Need-without-devices-requires Inv-loop μ-loop
+without-devices-requires c κs = refl
 
 loop-holds : tie.Need-loop-holds Inv-loop μ-loop
 loop-holds c =
     let a = c .before .before .before .args in
-    (replaying-none (a .text .now) (a .out .now) _ (start-reading (c .fresh .result) (c .fresh .ensures)), start-ready (c .fresh .result) (c .fresh .ensures))
+    (replaying-none (a .text .now) (a .out .now) _ (start-reading (c .without-devices .result) (c .without-devices .ensures)), start-ready (c .without-devices .result) (c .without-devices .ensures))
 
 part-at-requires : tie.Need-part-at-requires Inv-loop μ-loop
 part-at-requires c κs = omega (arith, c .loop-test .taken)
@@ -44,7 +44,7 @@ put-line-requires c κs =
     let inv = i .before .loop .inv in
     let s = i .before .before .before .before .before in
     replaying-room (s .args .text .now) (s .args .out .now) (inv .0) (inv .1 .opened .valid) (s .pre .0) (s .pre .1) (p .part-at .result) (p .part-at .ensures) (i .loop-test .taken)
-    (c .wide32 .result) 0 0 (told-refused _ (v .said .given .1) (c .wide32 .ensures .0)) (c .wide32 .ensures .1)
+    (c .wide32 .result) 0 0 (gives-refused _ (v .said .given .1) (c .wide32 .ensures .0)) (c .wide32 .ensures .1)
 
 advance-requires : tie.Need-advance-requires Inv-loop μ-loop
 advance-requires c κs =
@@ -64,7 +64,7 @@ put-line-requires-2 c κs =
     let inv = i .before .loop .inv in
     let s = i .before .before .before .before .before in
     replaying-room (s .args .text .now) (s .args .out .now) (inv .0) (inv .1 .opened .valid) (s .pre .0) (s .pre .1) (p .part-at .result) (p .part-at .ensures) (i .loop-test .taken)
-    (c .wide322 .result) (q .advance .result .moved) (q .advance .result .count) (told-advanced (q .advance .ensures .0) (c .wide322 .ensures .0)) (c .wide322 .ensures .1)
+    (c .wide322 .result) (q .advance .result .moved) (q .advance .result .count) (gives-advanced (q .advance .ensures .0) (c .wide322 .ensures .0)) (c .wide322 .ensures .1)
 
 add-line : tie.Need-add-line Inv-loop μ-loop
 add-line c =
@@ -86,13 +86,13 @@ loop-again c =
     ⊎-elim
     (λ v. (
       replaying-step (s .args .text .now) (s .args .out .now) (inv .0) (inv .1 .opened .valid) (s .pre .0) (s .pre .1) (p .part-at .result) (p .part-at .ensures) (i .loop-test .taken)
-          (v .4 .result) 0 0 (told-refused _ (v .1 .given .1) (v .4 .ensures .0)) (v .4 .ensures .1) _ (c .match .place) (c .match .out)
+          (v .4 .result) 0 0 (gives-refused _ (v .1 .given .1) (v .4 .ensures .0)) (v .4 .ensures .1) _ (c .match .place) (c .match .out)
           (reading-as (v .13) (v .9) (v .12) ∙ sym (ap (λ (r : Result). r .after) (line-refused _ _ (v .1 .given .1)))) (v .14 ∙ v .5 .ensures .0) (v .8 ∙ v .5 .ensures .1),
       ready-as (v .13) (v .9) (v .10) (v .11) (inv .1),
     ))
     (λ v. (
       replaying-step (s .args .text .now) (s .args .out .now) (inv .0) (inv .1 .opened .valid) (s .pre .0) (s .pre .1) (p .part-at .result) (p .part-at .ensures) (i .loop-test .taken)
-          (v .6 .result) (v .4 .result .moved) (v .4 .result .count) (told-advanced (v .4 .ensures .0) (v .6 .ensures .0)) (v .6 .ensures .1) _ (c .match .place) (c .match .out)
+          (v .6 .result) (v .4 .result .moved) (v .4 .result .count) (gives-advanced (v .4 .ensures .0) (v .6 .ensures .0)) (v .6 .ensures .1) _ (c .match .place) (c .match .out)
           (reading-as (v .16) (v .12) (v .15) ∙ v .4 .ensures .0 .after) (v .17 ∙ v .7 .ensures .0) (v .11 ∙ v .7 .ensures .1),
       ready-as (v .16) (v .12) (v .13) (v .14) (record { opened = v .4 .ensures .0 .opened; workSize = v .4 .ensures .1 .0; nextSize = v .4 .ensures .1 .1 }),
     ))
@@ -130,7 +130,7 @@ replay-spec =
     (tie.spec
     Inv-loop
     μ-loop
-    fresh-requires
+    without-devices-requires
     loop-holds
     part-at-requires
     (λ c. search needs)

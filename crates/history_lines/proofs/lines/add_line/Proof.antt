@@ -4,10 +4,10 @@ use mathlib.Core.Bool.{false}
 use borrow.Author.Needs.{needs}
 use Rattle.slicing.specs.Limits.{maxId, maxCapacity, outside}
 use Rattle.history_lines.specs.Lines.{deviceOutside}
-use Rattle.history_lines.specs.Text.{numberIn, capacityIn}
+use Rattle.history_numbers.specs.Text.{numberIn, capacityIn}
 use Rattle.history_lines.specs.declared.lines.LineAnswer.the-variants.{Add}
-use Rattle.history_lines.specs.declared.numbers.Parsed.{Parsed}
-use Rattle.history_lines.specs.declared.numbers.Parsed.the-variants.{Number}
+use Rattle.history_numbers.specs.declared.numbers.Parsed.{Parsed}
+use Rattle.history_numbers.specs.declared.numbers.Parsed.the-variants.{Number}
 use Rattle.history_lines.proofs.LineShapes.{pair-first, pair-outside, pair-inside, outside-first, outside-none, pair-refused, capacity-known}
 use Rattle.history_lines.proofs.lines.add_line.Statement.{statement}
 use Rattle.history_lines.proofs.lines.add_line.Tie as tie

@@ -4,8 +4,8 @@ use mathlib.Core.List.{List}
 use Prim.Native.Nat.{ℕ}
 use native.Mathlib.Omega.{arith}
 use borrow.Author.Needs.{needs}
-use Rattle.history_lines.specs.Text.{space}
-use Rattle.history_lines.proofs.Splitting.{part-front, behind, Cut, cut-made}
+use Rattle.history_numbers.specs.Text.{space}
+use Rattle.history_numbers.proofs.Splitting.{part-front, behind, Cut, cut-made}
 use Rattle.history_lines.proofs.LineShapes.{line-one, line-remove, line-two, line-three, line-four, line-read}
 use Rattle.history_lines.proofs.lines.line.Statement.{statement}
 use Rattle.history_lines.proofs.lines.line.Tie as tie

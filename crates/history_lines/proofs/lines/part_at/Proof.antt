@@ -1,6 +1,6 @@
 -- `history_lines::lines::part_at` meets its contract: the line is cut at the first line end behind its place.
 use borrow.Author.Needs.{needs}
-use Rattle.history_lines.proofs.Splitting.{part-front, part-back}
+use Rattle.history_numbers.proofs.Splitting.{part-front, part-back}
 use Rattle.history_lines.proofs.TextParts.{part-ended, part-unended}
 use Rattle.history_lines.proofs.lines.part_at.Statement.{statement}
 use Rattle.history_lines.proofs.lines.part_at.Tie as tie

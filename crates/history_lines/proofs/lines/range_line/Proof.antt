@@ -3,10 +3,10 @@ use mathlib.Core.Path.{_≡_, sym, _∙_}
 use borrow.Author.Needs.{needs}
 use Rattle.slicing.specs.Limits.{maxRange, maxLimit, outside}
 use Rattle.history_lines.specs.Lines.{rangeOutside}
-use Rattle.history_lines.specs.Text.{numberIn}
+use Rattle.history_numbers.specs.Text.{numberIn}
 use Rattle.history_lines.specs.declared.lines.LineAnswer.the-variants.{Range}
-use Rattle.history_lines.specs.declared.numbers.Parsed.{Parsed}
-use Rattle.history_lines.specs.declared.numbers.Parsed.the-variants.{Number}
+use Rattle.history_numbers.specs.declared.numbers.Parsed.{Parsed}
+use Rattle.history_numbers.specs.declared.numbers.Parsed.the-variants.{Number}
 use Rattle.history_lines.proofs.LineShapes.{pair-first, pair-second, pair-outside, pair-inside, outside-first, outside-second, outside-none}
 use Rattle.history_lines.proofs.lines.range_line.Statement.{statement}
 use Rattle.history_lines.proofs.lines.range_line.Tie as tie

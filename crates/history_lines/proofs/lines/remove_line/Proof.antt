@@ -1,6 +1,6 @@
 -- `history_lines::lines::remove_line` meets its contract: the shape first, then the limit.
 use mathlib.Core.Path.{sym, _∙_}
-use Rattle.history_lines.specs.Text.{numberIn}
+use Rattle.history_numbers.specs.Text.{numberIn}
 use Rattle.history_lines.proofs.LineShapes.{remove-none, remove-outside, remove-inside}
 use borrow.Author.Needs.{needs}
 use Rattle.history_lines.proofs.lines.remove_line.Statement.{statement}

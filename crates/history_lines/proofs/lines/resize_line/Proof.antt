@@ -1,6 +1,6 @@
 -- `history_lines::lines::resize_line` meets its contract: the answer is that of an `add` line, with its name changed.
 use mathlib.Core.Path.{sym, ap, _∙_}
-use Rattle.history_lines.specs.Text.{numberIn, capacityIn}
+use Rattle.history_numbers.specs.Text.{numberIn, capacityIn}
 use Rattle.history_lines.proofs.LineShapes.{resized, resized-add, resized-other}
 use borrow.Author.Needs.{needs}
 use Rattle.history_lines.proofs.lines.resize_line.Statement.{statement}

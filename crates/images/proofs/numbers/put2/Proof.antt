@@ -3,7 +3,7 @@ use mathlib.Core.Path.{refl, ap, _∙_}
 use mathlib.Core.List.{_++_}
 use Prim.Native.Nat.{_+_, _/_, _%_}
 use lib.ListN.{take, drop}
-use Rattle.sha1.specs.Fips180.{bytes}
+use Rattle.sha1_blocks.specs.Fips180.{bytes}
 use native.Mathlib.Omega.{arith}
 use borrow.Author.Needs.{needs}
 use Rattle.images.proofs.Fronts.{put-parts, bytes-halves}

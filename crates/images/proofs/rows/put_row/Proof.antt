@@ -5,7 +5,7 @@ use Prim.Native.Nat.{_+_}
 use native.Mathlib.Omega.{arith}
 use lib.ListN.{take, drop}
 use borrow.Author.Needs.{needs}
-use Rattle.sha1.specs.Fips180.{bytes}
+use Rattle.sha1_blocks.specs.Fips180.{bytes}
 use Rattle.images.specs.RowBytes.{rowBytes}
 use Rattle.images.proofs.Fronts.{put-parts}
 use Rattle.images.proofs.rows.put_row.Statement.{statement}

@@ -25,11 +25,11 @@ cast-longs c = omega (arith, c .number4 .ensures .1)
 
 loop-again : tie.Need-loop-again Inv-loop μ-loop
 loop-again c =
-    let turn = c .before .before .before .loop in
+    let pass = c .before .before .before .loop in
     let a = c .before .before .before .before .before .before .before .args in (
       omega arith,
-      filled-more 2 (a .short) (a .rows .now) (a .shorts .now) (turn .shorts) (turn .i) _ (omega arith) (turn .inv .1) (c .before .number2 .ensures .0),
-      filled-more 4 (a .long) (a .rows .now) (a .longs .now) (turn .longs) (turn .i) _ (omega arith) (turn .inv .2) (c .number4 .ensures .0),
+      filled-more 2 (a .short) (a .rows .now) (a .shorts .now) (pass .shorts) (pass .i) _ (omega arith) (pass .inv .1) (c .before .number2 .ensures .0),
+      filled-more 4 (a .long) (a .rows .now) (a .longs .now) (pass .longs) (pass .i) _ (omega arith) (pass .inv .2) (c .number4 .ensures .0),
     )
 
 same-length : tie.Need-same-length Inv-loop μ-loop
@@ -40,10 +40,10 @@ same-length-2 c = c .before .loop .inv .2 .size
 
 returns : tie.Need-returns Inv-loop μ-loop
 returns c =
-    let turn = c .before .loop in
+    let pass = c .before .loop in
     let a = c .before .before .before .before .before .args in (
-      filled-all 2 (a .short) (a .rows .now) (a .shorts .now) (turn .shorts) (turn .i) (a .n) (omega arith) (turn .inv .1),
-      filled-all 4 (a .long) (a .rows .now) (a .longs .now) (turn .longs) (turn .i) (a .n) (omega arith) (turn .inv .2),
+      filled-all 2 (a .short) (a .rows .now) (a .shorts .now) (pass .shorts) (pass .i) (a .n) (omega arith) (pass .inv .1),
+      filled-all 4 (a .long) (a .rows .now) (a .longs .now) (pass .longs) (pass .i) (a .n) (omega arith) (pass .inv .2),
     )
 
 pub read-columns-spec : {M : Type 1} → statement M

@@ -3,7 +3,7 @@ use native.Mathlib.Omega.{arith}
 use Prim.Native.Nat.{_+_, _*_, _-_}
 use lib.ListN.{length, drop, length-take, length-drop}
 use borrow.Author.Needs.{needs}
-use Rattle.placement.proofs.ValidParts.{valid-limited}
+use Rattle.pools.proofs.ValidParts.{valid-limited}
 use Rattle.slicing_core.proofs.Fronts.{part-room}
 use Rattle.images.proofs.WrittenImages.{image-put}
 use Rattle.images.proofs.writer.put_image.Statement.{statement}

@@ -18,10 +18,10 @@ loop-holds c = in-place-none _ _ _ (c .pre .1)
 
 loop-again : tie.Need-loop-again Inv-loop μ-loop
 loop-again c =
-    let turn = c .before .before in
-    let kept = turn .before .loop .inv in
-    ⊎-elim (λ w. rw (w .1) (in-place-put kept _ (turn .loop-test .taken) (turn .before .before .pre .0) (lowered-above _ _ (w .0 .taken))))
-    (λ w. rw (w .1) (in-place-on kept (turn .loop-test .taken) (lowered-to _ _ (w .0 .left)))) (c .if1 .came)
+    let pass = c .before .before in
+    let kept = pass .before .loop .inv in
+    ⊎-elim (λ w. rw (w .1) (in-place-put kept _ (pass .loop-test .taken) (pass .before .before .pre .0) (lowered-above _ _ (w .0 .taken))))
+    (λ w. rw (w .1) (in-place-on kept (pass .loop-test .taken) (lowered-to _ _ (w .0 .left)))) (c .if1 .came)
 
 returns : tie.Need-returns Inv-loop μ-loop
 returns c =

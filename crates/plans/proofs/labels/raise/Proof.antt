@@ -17,13 +17,13 @@ loop-holds c = renamed-none _ _ _ _ (c .pre .2)
 
 raised-run-requires : tie.Need-raised-run-requires Inv-loop μ-loop
 raised-run-requires c κs =
-    let turn = c .before in
-    turn .before .before .pre .1 (turn .before .loop .i) (turn .loop-test .taken)
+    let pass = c .before in
+    pass .before .before .pre .1 (pass .before .loop .i) (pass .loop-test .taken)
 
 loop-again : tie.Need-loop-again Inv-loop μ-loop
 loop-again c =
-    let turn = c .before .before in
-    renamed-put (turn .before .loop .inv) _ (turn .loop-test .taken) (turn .before .before .pre .0) (c .raised-run .ensures)
+    let pass = c .before .before in
+    renamed-put (pass .before .loop .inv) _ (pass .loop-test .taken) (pass .before .before .pre .0) (c .raised-run .ensures)
 
 returns : tie.Need-returns Inv-loop μ-loop
 returns c =

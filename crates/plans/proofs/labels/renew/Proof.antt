@@ -18,8 +18,8 @@ loop-holds c = renamed-none _ _ _ _ (c .pre .1)
 
 loop-again : tie.Need-loop-again Inv-loop μ-loop
 loop-again c =
-    let turn = c .before in
-    renamed-put (turn .before .loop .inv) _ (turn .loop-test .taken) (turn .before .before .pre .0) (named-same _)
+    let pass = c .before in
+    renamed-put (pass .before .loop .inv) _ (pass .loop-test .taken) (pass .before .before .pre .0) (named-same _)
 
 returns : tie.Need-returns Inv-loop μ-loop
 returns c =

@@ -4,7 +4,7 @@ use mathlib.Core.Path.{sym}
 use Prim.Native.Nat.{ℕ}
 use native.Mathlib.Omega.{arith}
 use borrow.Author.Needs.{needs}
-use Rattle.sha1.proofs.Padding.{length-pad, getD-pad-message, getD-pad-mark, getD-pad-zero, getD-pad-field}
+use Rattle.sha1_blocks.proofs.Padding.{length-pad, getD-pad-message, getD-pad-mark, getD-pad-zero, getD-pad-field}
 use Rattle.sha1.proofs.message.padded_byte.Statement.{statement}
 use Rattle.sha1.proofs.message.padded_byte.Tie as tie
 

@@ -2,7 +2,7 @@
 use mathlib.Core.Path.{sym, _∙_}
 use native.Mathlib.Omega.{arith}
 use borrow.Author.Needs.{needs}
-use Rattle.sha1.proofs.Padding.{length-pad, word-pad}
+use Rattle.sha1_blocks.proofs.Padding.{length-pad, word-pad}
 use Rattle.sha1.proofs.message.padded_word.Statement.{statement}
 use Rattle.sha1.proofs.message.padded_word.Tie as tie
 

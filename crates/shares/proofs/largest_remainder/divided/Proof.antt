@@ -7,7 +7,7 @@ use native.Mathlib.Omega.{arith}
 use borrow.Author.Needs.{needs}
 use Rattle.slicing.specs.LargestRemainder.{floors as floorsOf}
 use Rattle.slicing_core.specs.Rows.{at, deviceRows}
-use Rattle.slicing_core.proofs.Fills.{Filling, filling-none, filling-put}
+use Rattle.slicing_core.proofs.FilledArrays.{FilledTo, filledTo-none, filledTo-put}
 use Rattle.slicing_core.proofs.Rows.{deviceRows-step, deviceRows-end}
 use Rattle.shares.proofs.LargestRemainder.{capacity-most, product-most, floors-most, remainders-rows}
 use Rattle.shares.proofs.largest_remainder.divided.Statement.{statement}
@@ -15,7 +15,7 @@ use Rattle.shares.proofs.largest_remainder.divided.Tie as tie
 
 abbrev Inv-loop : tie.InvT-loop
 Inv-loop range capacities ids n c floors₀ remainders₀ given₀ i₀ floors remainders given i =
-    (i ≤ n) × Filling (λ k. range * at capacities k / c) floors i × Filling (λ k. range * at capacities k % c) remainders i
+    (i ≤ n) × FilledTo (λ k. range * at capacities k / c) floors i × FilledTo (λ k. range * at capacities k % c) remainders i
     × (given + floorsOf range c (deviceRows ids capacities i (n - i)) ≡ floorsOf range c (deviceRows ids capacities 0 n))
 
 abbrev μ-loop : tie.MeasureT-loop
@@ -36,7 +36,7 @@ most : (c : tie.Start Inv-loop μ-loop) → let args = c .args in
 most c = floors-most _ _ (c .args .ids .now) (c .args .capacities .now) (c .args .n) (c .pre .1 .0) (c .pre .1 .1)
 
 loop-holds : tie.Need-loop-holds Inv-loop μ-loop
-loop-holds c = (omega arith, filling-none _, filling-none _, simp (zero-add, sub-zero))
+loop-holds c = (omega arith, filledTo-none _, filledTo-none _, simp (zero-add, sub-zero))
 
 mul-product-2 : tie.Need-mul-product-2 Inv-loop μ-loop
 mul-product-2 c =
@@ -49,10 +49,10 @@ add-given c = omega (arith, step (c .before), most (c .before .before .before))
 
 loop-again : tie.Need-loop-again Inv-loop μ-loop
 loop-again c =
-    let turn = c .before .before .loop in (
+    let pass = c .before .before .loop in (
       omega arith,
-      filling-put (turn .inv .1) (omega arith) refl refl,
-      filling-put (turn .inv .2) (omega arith) refl refl,
+      filledTo-put (pass .inv .1) (omega arith) refl refl,
+      filledTo-put (pass .inv .2) (omega arith) refl refl,
       omega (arith, step (c .before)),
     )
 
@@ -62,10 +62,10 @@ sub-t22 c = omega (arith, most (c .before .before))
 returns : tie.Need-returns Inv-loop μ-loop
 returns c =
     let args = c .before .before .args in
-    let turn = c .before .loop in
-    let e : turn .i ≡ args .n = omega arith in
-    let none = deviceRows-end (args .ids .now) (args .capacities .now) (turn .i) (args .n) (c .loop-test .left) in
-    remainders-rows (c .before .before .pre .1 .0) (rw e at (turn .inv .1)) (rw e at (turn .inv .2))
+    let pass = c .before .loop in
+    let e : pass .i ≡ args .n = omega arith in
+    let none = deviceRows-end (args .ids .now) (args .capacities .now) (pass .i) (args .n) (c .loop-test .left) in
+    remainders-rows (c .before .before .pre .1 .0) (rw e at (pass .inv .1)) (rw e at (pass .inv .2))
     (omega (arith, ap (floorsOf (args .range) (args .c)) none))
 
 pub divided-spec : {M : Type 1} → statement M

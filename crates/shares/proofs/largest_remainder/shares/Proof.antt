@@ -6,14 +6,14 @@ use borrow.Author.Needs.{needs}
 use Rattle.slicing.specs.Devices.{device}
 use Rattle.slicing.specs.LargestRemainder.{share}
 use Rattle.slicing_core.specs.Rows.{at, deviceRows}
-use Rattle.slicing_core.proofs.Fills.{Filling, filling-none, filling-put}
+use Rattle.slicing_core.proofs.FilledArrays.{FilledTo, filledTo-none, filledTo-put}
 use Rattle.shares.proofs.LargestRemainder.{capacity-most, some-capacities, floor-most, share-more, share-same, rows-shares}
 use Rattle.shares.proofs.largest_remainder.shares.Statement.{statement}
 use Rattle.shares.proofs.largest_remainder.shares.Tie as tie
 
 abbrev Inv-loop : tie.InvT-loop
 Inv-loop range ids capacities n c floors remainders leftover into₀ i₀ into i =
-    (i ≤ n) × Filling (λ k. share range (deviceRows ids capacities 0 n) (device (at ids k) (at capacities k))) into i
+    (i ≤ n) × FilledTo (λ k. share range (deviceRows ids capacities 0 n) (device (at ids k) (at capacities k))) into i
 
 abbrev μ-loop : tie.MeasureT-loop
 μ-loop range ids capacities n c floors remainders leftover into₀ i₀ into i = n - i
@@ -27,7 +27,7 @@ divided-requires c κs =
     )
 
 loop-holds : tie.Need-loop-holds Inv-loop μ-loop
-loop-holds c = (omega arith, filling-none _)
+loop-holds c = (omega arith, filledTo-none _)
 
 add-into : tie.Need-add-into Inv-loop μ-loop
 add-into c =
@@ -39,22 +39,22 @@ add-into c =
 
 loop-again : tie.Need-loop-again Inv-loop μ-loop
 loop-again c =
-    let turn = c .before .before .before .before .loop in
+    let pass = c .before .before .before .before .loop in
     let l = c .before .before .before .loop-test .taken in
     let parts = c .before .before .before .before .before .before .before .divided .ensures in
     let rank = c .before .rank .ensures in (
       omega arith,
-      ⊎-elim (λ w. filling-put (turn .inv .1) (omega arith) (w .1) (share-more parts (turn .i) l (omega (arith, w .0 .taken, rank))))
-          (λ w. filling-put (turn .inv .1) (omega arith) (w .1) (share-same parts (turn .i) l (omega (arith, w .0 .left, rank))))
+      ⊎-elim (λ w. filledTo-put (pass .inv .1) (omega arith) (w .1) (share-more parts (pass .i) l (omega (arith, w .0 .taken, rank))))
+          (λ w. filledTo-put (pass .inv .1) (omega arith) (w .1) (share-same parts (pass .i) l (omega (arith, w .0 .left, rank))))
           (c .if1 .came),
     )
 
 returns : tie.Need-returns Inv-loop μ-loop
 returns c =
     let args = c .before .before .before .before .before .before .args in
-    let turn = c .before .loop in (
-      rows-shares (args .range) (turn .into) (args .ids .now) (args .capacities .now) (args .n) (λ k l. turn .inv .1 .done k (omega arith)),
-      turn .inv .1 .size,
+    let pass = c .before .loop in (
+      rows-shares (args .range) (pass .into) (args .ids .now) (args .capacities .now) (args .n) (λ k l. pass .inv .1 .done k (omega arith)),
+      pass .inv .1 .size,
     )
 
 pub shares-spec : {M : Type 1} → statement M

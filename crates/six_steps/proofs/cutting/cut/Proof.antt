@@ -35,16 +35,16 @@ element-copy-out-have c = row-below (c .before .before)
 
 put-requires : tie.Need-put-requires Inv-loop μ-loop
 put-requires c κs =
-    let turn = c .before .before .before .before .before in
-    let pre = turn .before .before .pre .0 in
-    let w = turn .before .loop .inv in
-    let a = turn .before .before .args in
-    (w .size, omega (arith, w .few, pre .0), omega (arith, pre .2, at-total (a .table .now) 0 (a .q) (turn .before .loop .i) (omega arith) (omega (arith, turn .loop-test .taken))), omega (arith, row-below turn))
+    let pass = c .before .before .before .before .before in
+    let pre = pass .before .before .pre .0 in
+    let w = pass .before .loop .inv in
+    let a = pass .before .before .args in
+    (w .size, omega (arith, w .few, pre .0), omega (arith, pre .2, at-total (a .table .now) 0 (a .q) (pass .before .loop .i) (omega arith) (omega (arith, pass .loop-test .taken))), omega (arith, row-below pass))
 
 loop-again : tie.Need-loop-again Inv-loop μ-loop
 loop-again c =
-    let turn = c .before .before .before .before .before .before in
-    cutting-pass (turn .before .loop .inv) (turn .loop-test .taken) (row-below turn) (c .before .before .if1 .taken) (c .put .ensures)
+    let pass = c .before .before .before .before .before .before in
+    cutting-pass (pass .before .loop .inv) (pass .loop-test .taken) (row-below pass) (c .before .before .if1 .taken) (c .put .ensures)
 
 -- an owner that must release
 
@@ -60,12 +60,12 @@ element-write-release c = row-below (c .before .before .before .before .before .
 put-requires-2 : tie.Need-put-requires-2 Inv-loop μ-loop
 put-requires-2 c κs =
     let cut = c .before .before in
-    let turn = cut .before .before .before .before .before in
-    let pre = turn .before .before .pre .0 in
-    let w = turn .before .loop .inv in
+    let pass = cut .before .before .before .before .before in
+    let pre = pass .before .before .pre .0 in
+    let w = pass .before .loop .inv in
     let e = cut .cut-interval .ensures in
-    let b = row-below turn in
-    (w .size, omega (arith, cutting-room w (turn .loop-test .taken) (pre .0) b e), cutting-small w (turn .loop-test .taken) (pre .0) b e (pre .2) .0, omega (arith, b))
+    let b = row-below pass in
+    (w .size, omega (arith, cutting-room w (pass .loop-test .taken) (pre .0) b e), cutting-small w (pass .loop-test .taken) (pre .0) b e (pre .2) .0, omega (arith, b))
 
 add-put : tie.Need-add-put Inv-loop μ-loop
 add-put c = omega (arith, row-below (c .before .before .before .before .before .before .before .before .before))
@@ -74,14 +74,14 @@ put-requires-3 : tie.Need-put-requires-3 Inv-loop μ-loop
 put-requires-3 c κs =
     let p1 = c .before .put2 .ensures in
     let cut = c .before .before .before .before in
-    let turn = cut .before .before .before .before .before in
-    let pre = turn .before .before .pre .0 in
-    let w = turn .before .loop .inv in
+    let pass = cut .before .before .before .before .before in
+    let pre = pass .before .before .pre .0 in
+    let w = pass .before .loop .inv in
     let e = cut .cut-interval .ensures in
-    let b = row-below turn in (
+    let b = row-below pass in (
       p1 .size,
-      omega (arith, cutting-room w (turn .loop-test .taken) (pre .0) b e, p1 .most),
-      cutting-small w (turn .loop-test .taken) (pre .0) b e (pre .2) .1,
+      omega (arith, cutting-room w (pass .loop-test .taken) (pre .0) b e, p1 .most),
+      cutting-small w (pass .loop-test .taken) (pre .0) b e (pre .2) .1,
       omega (arith, b),
     )
 
@@ -90,35 +90,35 @@ put-requires-4 c κs =
     let p2 = c .before .put3 .ensures in
     let p1 = c .before .before .before .put2 .ensures in
     let cut = c .before .before .before .before .before .before in
-    let turn = cut .before .before .before .before .before in
-    let pre = turn .before .before .pre .0 in
-    let w = turn .before .loop .inv in
+    let pass = cut .before .before .before .before .before in
+    let pre = pass .before .before .pre .0 in
+    let w = pass .before .loop .inv in
     let e = cut .cut-interval .ensures in
-    let b = row-below turn in (
+    let b = row-below pass in (
       p2 .size,
-      omega (arith, cutting-room w (turn .loop-test .taken) (pre .0) b e, p1 .most, p2 .most),
-      cutting-small w (turn .loop-test .taken) (pre .0) b e (pre .2) .2,
+      omega (arith, cutting-room w (pass .loop-test .taken) (pre .0) b e, p1 .most, p2 .most),
+      cutting-small w (pass .loop-test .taken) (pre .0) b e (pre .2) .2,
       omega (arith, b),
     )
 
 add-i-2 : tie.Need-add-i-2 Inv-loop μ-loop
 add-i-2 c =
-    let turn = c .before .before .before .before .before .before .before .before .before .before .before .before in
-    omega (arith, turn .loop-test .taken, turn .before .before .pre .0 .0)
+    let pass = c .before .before .before .before .before .before .before .before .before .before .before .before in
+    omega (arith, pass .loop-test .taken, pass .before .before .pre .0 .0)
 
 loop-less-2 : tie.Need-loop-less-2 Inv-loop μ-loop
 loop-less-2 c =
-    let turn = c .before .before .before .before .before .before .before .before .before .before .before .before in
-    omega (arith, turn .loop-test .taken)
+    let pass = c .before .before .before .before .before .before .before .before .before .before .before .before in
+    omega (arith, pass .loop-test .taken)
 
 loop-again-2 : tie.Need-loop-again-2 Inv-loop μ-loop
 loop-again-2 c =
     let p2 = c .before .before .put3 .ensures in
     let p1 = c .before .before .before .before .put2 .ensures in
     let cut = c .before .before .before .before .before .before .before in
-    let turn = cut .before .before .before .before .before in
-    let pre = turn .before .before .pre .0 in
-    cutting-step (turn .before .loop .inv) (turn .loop-test .taken) (pre .0) (row-below turn) (cut .cut-interval .ensures) p1 p2 (c .put4 .ensures)
+    let pass = cut .before .before .before .before .before in
+    let pre = pass .before .before .pre .0 in
+    cutting-step (pass .before .loop .inv) (pass .loop-test .taken) (pre .0) (row-below pass) (cut .cut-interval .ensures) p1 p2 (c .put4 .ensures)
 
 returns : tie.Need-returns Inv-loop μ-loop
 returns c =

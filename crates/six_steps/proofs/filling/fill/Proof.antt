@@ -2,14 +2,14 @@
 use Prim.Native.Nat.{_+_, _-_, _<_}
 use native.Mathlib.Omega.{arith}
 use Rattle.slicing.specs.SixSteps.{fill}
-use Rattle.six_steps.specs.Words.{runs, marks}
+use Rattle.six_steps.specs.Words.{runs, piecesOf}
 use Rattle.six_steps.proofs.FillSteps.{Filling, filling-none, filling-small, filling-push, filling-empty, filling-kept, filling-more, label-fits, filling-whole, filling-part, filling-end}
 use Rattle.six_steps.proofs.filling.fill.Statement.{statement}
 use Rattle.six_steps.proofs.filling.fill.Tie as tie
 
 abbrev Inv-loop : tie.InvT-loop
 Inv-loop pieces₀ p queue₀ n turns₀ count₀ i₀ j₀ pieces queue turns count i j =
-    Filling (fill (marks pieces₀ 0 p) (runs queue₀ 0 n)) p n pieces queue turns count i j
+    Filling (fill (piecesOf pieces₀ 0 p) (runs queue₀ 0 n)) p n pieces queue turns count i j
 
 abbrev μ-loop : tie.MeasureT-loop
 μ-loop pieces₀ p queue₀ n turns₀ count₀ i₀ j₀ pieces queue turns count i j = p - i + (n - j)
@@ -23,27 +23,27 @@ loop-holds c =
 
 push-requires : tie.Need-push-requires Inv-loop μ-loop
 push-requires c κs =
-    let turn = c .before .before .before .before in
-    filling-push (turn .before .loop .inv) (turn .loop-test .taken) (turn .before .before .pre .0 .1) _ _ (omega arith) (omega arith)
+    let pass = c .before .before .before .before in
+    filling-push (pass .before .loop .inv) (pass .loop-test .taken) (pass .before .before .pre .0 .1) _ _ (omega arith) (omega arith)
 
 loop-again : tie.Need-loop-again Inv-loop μ-loop
 loop-again c =
-    let turn = c .before .before .before .before .before in
-    filling-kept (turn .before .loop .inv) (turn .loop-test .taken) (c .before .before .if1 .taken) (c .push .ensures)
+    let pass = c .before .before .before .before .before in
+    filling-kept (pass .before .loop .inv) (pass .loop-test .taken) (c .before .before .if1 .taken) (c .push .ensures)
 
 -- an empty piece
 
 loop-again-2 : tie.Need-loop-again-2 Inv-loop μ-loop
 loop-again-2 c =
-    let turn = c .before .before .before .before in
-    filling-empty (turn .before .loop .inv) (turn .loop-test .taken) (c .if2 .taken)
+    let pass = c .before .before .before .before in
+    filling-empty (pass .before .loop .inv) (pass .loop-test .taken) (c .if2 .taken)
 
 -- a taken piece
 
 more : (c : tie.Else2 Inv-loop μ-loop) → c .before .before .before .before .before .loop .j < c .before .before .before .before .before .before .args .n
 more c =
-    let turn = c .before .before .before .before in
-    filling-more (turn .before .loop .inv) (turn .loop-test .taken) (c .before .if1 .left) (c .if2 .left)
+    let pass = c .before .before .before .before in
+    filling-more (pass .before .loop .inv) (pass .loop-test .taken) (c .before .if1 .left) (c .if2 .left)
 
 mul-need : tie.Need-mul-need Inv-loop μ-loop
 mul-need c = omega (arith, more c)
@@ -63,20 +63,20 @@ element-copy-out-turn c = element-copy-out-need (c .before)
 add-turn : tie.Need-add-turn Inv-loop μ-loop
 add-turn c =
     let there = c .before .before in
-    let turn = there .before .before .before .before in
-    omega (arith, label-fits (turn .before .loop .inv) (turn .loop-test .taken) (there .before .if1 .left) (more there))
+    let pass = there .before .before .before .before in
+    omega (arith, label-fits (pass .before .loop .inv) (pass .loop-test .taken) (there .before .if1 .left) (more there))
 
 push-requires-2 : tie.Need-push-requires-2 Inv-loop μ-loop
 push-requires-2 c κs =
     let there = c .before .before .before .before in
-    let turn = there .before .before .before .before in
-    filling-push (turn .before .loop .inv) (turn .loop-test .taken) (turn .before .before .pre .0 .1) _ _ (omega (arith, c .before .if3 .taken))
-    (omega (arith, label-fits (turn .before .loop .inv) (turn .loop-test .taken) (there .before .if1 .left) (more there)))
+    let pass = there .before .before .before .before in
+    filling-push (pass .before .loop .inv) (pass .loop-test .taken) (pass .before .before .pre .0 .1) _ _ (omega (arith, c .before .if3 .taken))
+    (omega (arith, label-fits (pass .before .loop .inv) (pass .loop-test .taken) (there .before .if1 .left) (more there)))
 
 mul-pieces-2 : tie.Need-mul-pieces-2 Inv-loop μ-loop
 mul-pieces-2 c =
-    let turn = c .before .before .before .before .before .before .before .before .before .before in
-    omega (arith, filling-small (turn .before .loop .inv) (turn .loop-test .taken), c .before .before .before .if3 .taken)
+    let pass = c .before .before .before .before .before .before .before .before .before .before in
+    omega (arith, filling-small (pass .before .loop .inv) (pass .loop-test .taken), c .before .before .before .if3 .taken)
 
 sub-pieces : tie.Need-sub-pieces Inv-loop μ-loop
 sub-pieces c = omega (arith, c .before .before .before .if3 .taken)
@@ -87,16 +87,16 @@ loop-less-3 c = omega (arith, more (c .before .before .before .before .before .b
 loop-again-3 : tie.Need-loop-again-3 Inv-loop μ-loop
 loop-again-3 c =
     let there = c .before .before .before .before .before .before in
-    let turn = there .before .before .before .before in
-    filling-whole (turn .before .loop .inv) (turn .loop-test .taken) (there .before .if1 .left) (more there) (omega (arith, turn .before .before .pre .0 .1))
+    let pass = there .before .before .before .before in
+    filling-whole (pass .before .loop .inv) (pass .loop-test .taken) (there .before .if1 .left) (more there) (omega (arith, pass .before .before .pre .0 .1))
     (c .before .before .before .if3 .taken) (c .before .push2 .ensures)
 
 push-requires-3 : tie.Need-push-requires-3 Inv-loop μ-loop
 push-requires-3 c κs =
     let there = c .before .before .before .before in
-    let turn = there .before .before .before .before in
-    filling-push (turn .before .loop .inv) (turn .loop-test .taken) (turn .before .before .pre .0 .1) _ _ (omega arith)
-    (omega (arith, label-fits (turn .before .loop .inv) (turn .loop-test .taken) (there .before .if1 .left) (more there)))
+    let pass = there .before .before .before .before in
+    filling-push (pass .before .loop .inv) (pass .loop-test .taken) (pass .before .before .pre .0 .1) _ _ (omega arith)
+    (omega (arith, label-fits (pass .before .loop .inv) (pass .loop-test .taken) (there .before .if1 .left) (more there)))
 
 mul-queue : tie.Need-mul-queue Inv-loop μ-loop
 mul-queue c = mul-need (c .before .before .before .before .before)
@@ -106,8 +106,8 @@ element-copy-out-queue c = element-copy-out-need (c .before .before .before .bef
 
 mul-queue-2 : tie.Need-mul-queue-2 Inv-loop μ-loop
 mul-queue-2 c =
-    let turn = c .before .before .before .before .before .before .before .before .before .before in
-    omega (arith, filling-small (turn .before .loop .inv) (turn .loop-test .taken))
+    let pass = c .before .before .before .before .before .before .before .before .before .before in
+    omega (arith, filling-small (pass .before .loop .inv) (pass .loop-test .taken))
 
 mul-queue-3 : tie.Need-mul-queue-3 Inv-loop μ-loop
 mul-queue-3 c = mul-need (c .before .before .before .before .before .before)
@@ -118,8 +118,8 @@ element-write-queue c = element-copy-out-need (c .before .before .before .before
 loop-again-4 : tie.Need-loop-again-4 Inv-loop μ-loop
 loop-again-4 c =
     let there = c .before .before .before .before .before .before in
-    let turn = there .before .before .before .before in
-    filling-part (turn .before .loop .inv) (turn .loop-test .taken) (there .before .if1 .left) (more there) (turn .before .before .pre .0 .0)
+    let pass = there .before .before .before .before in
+    filling-part (pass .before .loop .inv) (pass .loop-test .taken) (there .before .if1 .left) (more there) (pass .before .before .pre .0 .0)
     (c .before .before .before .if3 .left) (c .before .push3 .ensures)
 
 returns : tie.Need-returns Inv-loop μ-loop

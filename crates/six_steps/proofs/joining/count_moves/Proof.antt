@@ -17,14 +17,14 @@ loop-holds c = counted-none _ _
 
 add-count : tie.Need-add-count Inv-loop μ-loop
 add-count c =
-    let turn = c .before .before in
-    omega (arith, turn .before .loop .inv .few, turn .loop-test .taken, turn .before .before .pre)
+    let pass = c .before .before in
+    omega (arith, pass .before .loop .inv .few, pass .loop-test .taken, pass .before .before .pre)
 
 loop-again : tie.Need-loop-again Inv-loop μ-loop
 loop-again c =
-    let turn = c .before .before in
-    let w = turn .before .loop .inv in
-    let h = turn .loop-test .taken in
+    let pass = c .before .before in
+    let w = pass .before .loop .inv in
+    let h = pass .loop-test .taken in
     ⊎-elim (λ s. rw (s .1) (counted-more w h (s .0 .taken))) (λ s. rw (s .1) (counted-on w h (s .0 .left))) (c .if1 .came)
 
 returns : tie.Need-returns Inv-loop μ-loop

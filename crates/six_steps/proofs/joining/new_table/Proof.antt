@@ -17,13 +17,13 @@ loop-holds c = joined-none _ _ _ (c .pre .2)
 
 push-requires : tie.Need-push-requires Inv-loop μ-loop
 push-requires c κs =
-    let turn = c .before .before .before in
-    joined-push (turn .before .loop .inv) (turn .loop-test .taken) _ (omega arith) (turn .before .before .pre .0) (turn .before .before .pre .1)
+    let pass = c .before .before .before in
+    joined-push (pass .before .loop .inv) (pass .loop-test .taken) _ (omega arith) (pass .before .before .pre .0) (pass .before .before .pre .1)
 
 loop-again : tie.Need-loop-again Inv-loop μ-loop
 loop-again c =
-    let turn = c .before .before .before .before in
-    joined-step (turn .before .loop .inv) (turn .loop-test .taken) (c .push .ensures)
+    let pass = c .before .before .before .before in
+    joined-step (pass .before .loop .inv) (pass .loop-test .taken) (c .push .ensures)
 
 returns : tie.Need-returns Inv-loop μ-loop
 returns c =

@@ -30,13 +30,13 @@ add-queue c = omega (arith, few (c .before .before .before .before .before .befo
 
 add-sum : tie.Need-add-sum Inv-loop μ-loop
 add-sum c =
-    let turn = c .before .before .before .before .before .before in
-    omega (arith, few turn .0, c .before .before .before .above .ensures, turn .before .loop .inv .small, turn .before .before .pre .0 .0)
+    let pass = c .before .before .before .before .before .before in
+    omega (arith, few pass .0, c .before .before .before .above .ensures, pass .before .loop .inv .small, pass .before .before .pre .0 .0)
 
 loop-again : tie.Need-loop-again Inv-loop μ-loop
 loop-again c =
-    let turn = c .before .before .before .before .before .before in
-    quoted-step (turn .before .loop .inv) _ _ (turn .loop-test .taken) (turn .before .before .pre .0 .0) (few turn .0) (c .before .before .before .above .ensures)
+    let pass = c .before .before .before .before .before .before in
+    quoted-step (pass .before .loop .inv) _ _ (pass .loop-test .taken) (pass .before .before .pre .0 .0) (few pass .0) (c .before .before .before .above .ensures)
     (c .above2 .ensures)
 
 returns : tie.Need-returns Inv-loop μ-loop

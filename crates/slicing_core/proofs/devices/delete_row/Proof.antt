@@ -4,28 +4,28 @@ use mathlib.Core.Logic.{⊎-elim}
 use Prim.Native.Nat.{_-_, _≤_, _<_}
 use native.Mathlib.Omega.{arith}
 use borrow.Author.Needs.{needs}
-use Rattle.slicing_core.proofs.Fills.{Filling, filling-none, filling-put}
+use Rattle.slicing_core.proofs.FilledArrays.{FilledTo, filledTo-none, filledTo-put}
 use Rattle.slicing_core.proofs.Shifts.{deleted, deleted-before, deleted-after, filled-deleted}
 use Rattle.slicing_core.proofs.devices.delete_row.Statement.{statement}
 use Rattle.slicing_core.proofs.devices.delete_row.Tie as tie
 
 abbrev Inv-loop : tie.InvT-loop
-Inv-loop rows p into₀ i₀ into i = (i ≤ 255) × Filling (deleted rows p) into i
+Inv-loop rows p into₀ i₀ into i = (i ≤ 255) × FilledTo (deleted rows p) into i
 
 abbrev μ-loop : tie.MeasureT-loop
 μ-loop rows p into₀ i₀ into i = 255 - i
 
 loop-holds : tie.Need-loop-holds Inv-loop μ-loop
-loop-holds c = (omega arith, filling-none _)
+loop-holds c = (omega arith, filledTo-none _)
 
 loop-again : tie.Need-loop-again Inv-loop μ-loop
 loop-again c =
     let rows = c .before .before .before .args .rows .now in
-    let turn = c .before .before .loop in
-    let l : turn .i < 256 = omega arith in (
+    let pass = c .before .before .loop in
+    let l : pass .i < 256 = omega arith in (
       omega arith,
-      ⊎-elim (λ w. filling-put (turn .inv .1) l (w .2) (sym (deleted-before rows (w .0 .taken))))
-          (λ w. filling-put (turn .inv .1) l (w .2) (sym (deleted-after rows (w .0 .left))))
+      ⊎-elim (λ w. filledTo-put (pass .inv .1) l (w .2) (sym (deleted-before rows (w .0 .taken))))
+          (λ w. filledTo-put (pass .inv .1) l (w .2) (sym (deleted-after rows (w .0 .left))))
           (c .if1 .came),
     )
 

@@ -18,10 +18,10 @@ abbrev μ-loop : tie.MeasureT-loop
 μ-loop ids capacities n last₀ i₀ last i = n - i
 
 -- what a row must meet, if all rise
-row : (c : tie.In-loop Inv-loop μ-loop) → let args = c .before .before .args in let turn = c .before .loop in
+row : (c : tie.In-loop Inv-loop μ-loop) → let args = c .before .before .args in let pass = c .before .loop in
     Rising 0 (deviceRows (args .ids .now) (args .capacities .now) 0 (args .n))
-    → Within (turn .last) (device (at (args .ids .now) (turn .i)) (at (args .capacities .now) (turn .i)))
-    × Rising (at (args .ids .now) (turn .i)) (deviceRows (args .ids .now) (args .capacities .now) (turn .i + 1) (args .n - (turn .i + 1)))
+    → Within (pass .last) (device (at (args .ids .now) (pass .i)) (at (args .capacities .now) (pass .i)))
+    × Rising (at (args .ids .now) (pass .i)) (deviceRows (args .ids .now) (args .capacities .now) (pass .i + 1) (args .n - (pass .i + 1)))
 row c h = rising-row _ _ _ _ _ (c .loop-test .taken) (c .before .loop .inv .2 h)
 
 loop-holds : tie.Need-loop-holds Inv-loop μ-loop
@@ -43,15 +43,15 @@ loop-again : tie.Need-loop-again Inv-loop μ-loop
 loop-again c =
     let at-row = c .before .before .before .before .before .before in
     let args = at-row .before .before .args in
-    let turn = at-row .before .loop in
-    let within : Within (turn .last) (device (at (args .ids .now) (turn .i)) (at (args .capacities .now) (turn .i))) = record {
+    let pass = at-row .before .loop in
+    let within : Within (pass .last) (device (at (args .ids .now) (pass .i)) (at (args .capacities .now) (pass .i))) = record {
       above = c .before .before .before .if1 .left;
       known = c .before .before .if2 .left;
       some = c .before .if3 .left;
       most = c .if4 .left;
     } in (
       omega arith,
-      λ h. turn .inv .1 (row-rising _ _ _ _ _ (at-row .loop-test .taken) within h),
+      λ h. pass .inv .1 (row-rising _ _ _ _ _ (at-row .loop-test .taken) within h),
       λ h. row at-row h .1,
     )
 

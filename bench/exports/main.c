@@ -1,0 +1,52 @@
+/* Calls of libgorvyts.a on the pool that a history leaves: exports CALL COUNT < HISTORY. CALL is `change` (a
+ * resize of a device to and fro, image to image), `check`, `owner`, `open` or `owner_in`; the pool is made first,
+ * and opened for `owner_in`, so that a run with COUNT 0 has all but the calls. Prints the last answer. Ends
+ * with 1 where a call is refused. */
+#include <inttypes.h>
+#include <stdio.h>
+#include <stdlib.h>
+#include <string.h>
+
+#include "../../callers/c/gorvyts.h"
+
+static uint8_t text[65536], images[2][GORVYTS_IMAGE_MOST];
+static uint64_t list[4 * 4096];
+static struct gorvyts_pool pool;
+
+/* The first device of an image: its id. */
+static uint64_t first_id(const uint8_t *image)
+{
+    return (uint64_t)image[19] * 256 + image[20];
+}
+
+int main(int argc, char **argv)
+{
+    if (argc != 3)
+        return 2;
+    const char *call = argv[1];
+    uint64_t count = strtoull(argv[2], NULL, 10), answer[3] = {0, 0, 0};
+    size_t size = fread(text, 1, sizeof text, stdin);
+    uint32_t number = gorvyts_replay(text, size, images[0], sizeof images[0], answer, 3);
+    size_t length = answer[0];
+    if (number == 0)
+        number = gorvyts_pool_open(&pool, images[0], length);
+    for (uint64_t i = 0; i < count && number == 0; i++) {
+        uint64_t point = i * 2654435761u % pool.numbers[0];
+        if (strcmp(call, "change") == 0) {
+            number = gorvyts_resize(images[i % 2], length, first_id(images[0]), i % 2 ? 12345 : 12844, images[(i + 1) % 2],
+                                    sizeof images[0], list, sizeof list / sizeof *list, answer, 3);
+            length = answer[0];
+        } else if (strcmp(call, "check") == 0)
+            number = gorvyts_check(images[0], length);
+        else if (strcmp(call, "owner") == 0)
+            number = gorvyts_owner(images[0], length, point, answer, 1);
+        else if (strcmp(call, "open") == 0)
+            number = gorvyts_pool_open(&pool, images[0], length);
+        else if (strcmp(call, "owner_in") == 0)
+            number = gorvyts_pool_owner(&pool, point, answer);
+        else
+            return 2;
+    }
+    printf("%" PRIu32 " %" PRIu64 "\n", number, answer[0]);
+    return number != 0;
+}

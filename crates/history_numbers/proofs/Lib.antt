@@ -1,0 +1,3 @@
+pub mod Splitting
+pub mod DigitWords
+pub mod NumberWords

@@ -1,0 +1,3 @@
+pub mod FlatLists
+pub mod WrittenMoves
+pub mod MovedLists

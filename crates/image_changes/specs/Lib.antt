@@ -1,0 +1,2 @@
+pub mod FlatMoves
+pub mod Promises

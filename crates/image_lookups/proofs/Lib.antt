@@ -1,0 +1,5 @@
+pub mod ToldOwners
+pub mod CopiedRows
+pub mod CopiedCalls
+pub mod OpenedPools
+pub mod OpenedLookups

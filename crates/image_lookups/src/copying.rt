@@ -1,0 +1,169 @@
+// The copies of one block, and of many. The pool of an image that was read is valid, so the lookups are those on
+// its arrays, which decide nothing again.
+use crate::ROW;
+use lookups::CopiesAnswer;
+use lookups::Counters;
+use lookups::copies_in;
+use pools::Pool;
+use slicing::SHORT_BUFFER;
+ghost use mathlib.Core.Path.{_≡_};
+ghost use mathlib.Core.List.{_∷_, _++_};
+ghost use Prim.Native.Nat.{_*_, _≤_};
+ghost use lib.ListN.{length, take, drop, replicate};
+ghost use Rattle.pools.specs.Pools.{stateOf, ValidPool};
+ghost use Rattle.image_lookups.specs.Promises.{CopiedOne, CopiedMany, countersIn, tallyOf, rowsFor, countedFor};
+
+fn wide16(x: u16) -> u32
+    ensures { λ r. ⌜ r ≡ x ⌝ }
+{
+    x as u32
+}
+
+// Puts eight owners behind the number of a row.
+fn put_owners(row: &mut [u32], owners: &[u16; 8])
+    requires { ⌜ (10 ≤ length (now row)) × (length (now owners) ≡ 8) ⌝ }
+    ensures { λ r. ⌜ now (row .exit) ≡ take 1 (now (row .entry)) ++ now (owners .entry) ++ drop 9 (now (row .entry)) ⌝ }
+{
+    let mut i = 0;
+    while i < 8 {
+        row[i + 1] = wide16(owners[i]);
+        i += 1;
+    }
+}
+
+// Puts an answer into the first row.
+pub fn put_row(row: &mut [u32], answer: CopiesAnswer)
+    requires { ⌜ 10 ≤ length (now row) ⌝ }
+    ensures { λ r. ⌜ now (row .exit) ≡ answer .refusal ∷ answer .owners ++ answer .probes ∷ drop 10 (now (row .entry)) ⌝ }
+{
+    let owners = answer.owners;
+    row[0] = answer.refusal;
+    put_owners(&mut *row, &owners);
+    row[9] = answer.probes;
+}
+
+// Puts the row of a refused call.
+fn put_refusal(row: &mut [u32], refusal: u32)
+    requires { ⌜ 10 ≤ length (now row) ⌝ }
+    ensures { λ r. ⌜ now (row .exit) ≡ refusal ∷ replicate 9 0 ++ drop 10 (now (row .entry)) ⌝ }
+{
+    let owners = [0u16; 8];
+    row[0] = refusal;
+    put_owners(&mut *row, &owners);
+    row[9] = 0;
+}
+
+// The counters of a tally.
+pub fn counters_of(tally: &[u32]) -> Counters
+    requires { ⌜ 2 ≤ length (now tally) ⌝ }
+    ensures { λ r. ⌜ r ≡ countersIn (now (tally .entry)) ⌝ }
+{
+    Counters {
+        lookups: tally[0],
+        probes: tally[1],
+    }
+}
+
+pub fn put_counters(tally: &mut [u32], counters: Counters)
+    requires { ⌜ 2 ≤ length (now tally) ⌝ }
+    ensures { λ r. ⌜ now (tally .exit) ≡ tallyOf counters (now (tally .entry)) ⌝ }
+{
+    tally[0] = counters.lookups;
+    tally[1] = counters.probes;
+}
+
+// The copies of one block. The tally is two numbers, lookups and probes; the row is ten: the refusal number
+// or 0, the eight owners, the probes. 17 where the tally has under two places or the row under ten;
+// 14 to 16 as of a read; 11 where k is not within 1 to 8; 10 where no device is present; 12,
+// with 256 probes, where 256 probes find fewer than k different owners.
+pub fn copies(image: &[u8], block: u64, k: u64, tally: &mut [u32], row: &mut [u32]) -> u32
+    ensures { λ r. ⌜ CopiedOne (now (image .entry)) block k (now (tally .entry)) (now (row .entry)) (record { number = r; tally = now (tally .exit); rows = now (row .exit) }) ⌝ }
+{
+    if tally.len() < 2 {
+        return SHORT_BUFFER;
+    }
+    if row.len() < ROW {
+        return SHORT_BUFFER;
+    }
+    let made = images::read(image);
+    if made.refusal > 0 {
+        put_refusal(&mut *row, made.refusal);
+        return made.refusal;
+    }
+    let pool = made.pool;
+    let starts = pool.starts;
+    let owners = pool.owners;
+    let counters = counters_of(tally);
+    let answer = copies_in(
+        &starts,
+        &owners,
+        pool.intervals,
+        pool.devices,
+        pool.range,
+        block,
+        k,
+        counters,
+    );
+    let after = answer.counters;
+    put_row(&mut *row, answer);
+    put_counters(&mut *tally, after);
+    answer.refusal
+}
+
+// The copies of blocks in a valid pool, a row for each.
+fn copy_many(pool: Pool, blocks: &[u64], k: u64, counters: Counters, rows: &mut [u32]) -> Counters
+    requires { ⌜ ValidPool pool × (10 * length (now blocks) ≤ length (now rows)) ⌝ }
+    ensures { λ r. ⌜ r ≡ countedFor (stateOf pool) k (now (blocks .entry)) counters ⌝ }
+    ensures rows { λ r. ⌜ now (rows .exit) ≡ rowsFor (stateOf pool) k (now (blocks .entry)) ++ drop (10 * length (now (blocks .entry))) (now (rows .entry)) ⌝ }
+{
+    let starts = pool.starts;
+    let owners = pool.owners;
+    let mut after = counters;
+    let mut i = 0;
+    while i < blocks.len() {
+        let answer = copies_in(
+            &starts,
+            &owners,
+            pool.intervals,
+            pool.devices,
+            pool.range,
+            blocks[i],
+            k,
+            after,
+        );
+        let place = ROW * i;
+        put_row(&mut rows[place..], answer);
+        after = answer.counters;
+        i += 1;
+    }
+    after
+}
+
+// The copies of many blocks, a row of ten numbers for each, as `copies` gives it; one after another,
+// each counted in the tally if accepted. 0, though rows may hold refusals. 17 where the tally has under
+// two places or there are too few rows; 14 to 16 as of a read; then all stays.
+pub fn copies_of_many(
+    image: &[u8],
+    blocks: &[u64],
+    k: u64,
+    tally: &mut [u32],
+    rows: &mut [u32],
+) -> u32
+    ensures { λ r. ⌜ CopiedMany (now (image .entry)) (now (blocks .entry)) k (now (tally .entry)) (now (rows .entry)) (record { number = r; tally = now (tally .exit); rows = now (rows .exit) }) ⌝ }
+{
+    if tally.len() < 2 {
+        return SHORT_BUFFER;
+    }
+    if rows.len() / ROW < blocks.len() {
+        return SHORT_BUFFER;
+    }
+    let made = images::read(image);
+    if made.refusal > 0 {
+        return made.refusal;
+    }
+    let pool = made.pool;
+    let counters = counters_of(tally);
+    let after = copy_many(pool, blocks, k, counters, &mut *rows);
+    put_counters(&mut *tally, after);
+    0
+}

@@ -1,4 +1,0 @@
-pub mod FlatRows
-pub mod Drafts
-pub mod PassedOn
-pub mod Passing

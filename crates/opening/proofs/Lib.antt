@@ -1,4 +1,0 @@
-pub mod ClosedPools
-pub mod RowSteps
-pub mod HeldRuns
-pub mod CheckedPools
