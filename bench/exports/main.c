@@ -1,7 +1,7 @@
-/* Calls of libgorvyts.a on the pool that a history leaves: exports CALL COUNT < HISTORY. CALL is `change` (a
- * resize of a device to and fro, image to image), `check`, `owner`, `open` or `owner_in`; the pool is made first,
- * and opened for `owner_in`, so that a run with COUNT 0 has all but the calls. Prints the last answer. Ends
- * with 1 where a call is refused. */
+/* Calls of libgorvyts.a on the pool that a history leaves: exports CALL COUNT < HISTORY. CALL is `resize` (of a
+ * device to and fro, image to image), `remove_add` (of that device, in turn), `check`, `owner`, `open` or
+ * `owner_in`; the pool is made first, and opened for `owner_in`, so that a run with COUNT 0 has all but the
+ * calls. Prints the last answer. Ends with 1 where a call is refused. */
 #include <inttypes.h>
 #include <stdio.h>
 #include <stdlib.h>
@@ -28,13 +28,22 @@ int main(int argc, char **argv)
     size_t size = fread(text, 1, sizeof text, stdin);
     uint32_t number = gorvyts_replay(text, size, images[0], sizeof images[0], answer, 3);
     size_t length = answer[0];
+    const uint64_t id = first_id(images[0]);
     if (number == 0)
         number = gorvyts_pool_open(&pool, images[0], length);
     for (uint64_t i = 0; i < count && number == 0; i++) {
         uint64_t point = i * 2654435761u % pool.numbers[0];
-        if (strcmp(call, "change") == 0) {
-            number = gorvyts_resize(images[i % 2], length, first_id(images[0]), i % 2 ? 12345 : 12844, images[(i + 1) % 2],
-                                    sizeof images[0], list, sizeof list / sizeof *list, answer, 3);
+        const uint8_t *image = images[i % 2];
+        uint8_t *next = images[(i + 1) % 2];
+        if (strcmp(call, "resize") == 0) {
+            number = gorvyts_resize(image, length, id, i % 2 ? 12345 : 12844, next, sizeof images[0], list,
+                                    sizeof list / sizeof *list, answer, 3);
+            length = answer[0];
+        } else if (strcmp(call, "remove_add") == 0) {
+            number = i % 2 ? gorvyts_add(image, length, id, 12345, next, sizeof images[0], list,
+                                         sizeof list / sizeof *list, answer, 3)
+                           : gorvyts_remove(image, length, id, next, sizeof images[0], list,
+                                            sizeof list / sizeof *list, answer, 3);
             length = answer[0];
         } else if (strcmp(call, "check") == 0)
             number = gorvyts_check(images[0], length);

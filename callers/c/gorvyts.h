@@ -13,9 +13,9 @@
  * numbers may be stored again, unchanged). Bytes past a written image stay, and so do the places of a
  * list past its moves and of rows past the last one.
  *
- * Stack: measured on x86-64 (callers/c/stack.c), the changes need 460 KB, gorvyts_replay 360,
- * gorvyts_transcript 340, gorvyts_share 310, gorvyts_open and the lookups on an image 280, gorvyts_check,
- * gorvyts_numbers, gorvyts_devices and gorvyts_intervals 260, gorvyts_fresh 90, gorvyts_owner_in and
+ * Stack: measured on x86-64 (callers/c/stack.c), the changes need 440 KB, gorvyts_replay 360,
+ * gorvyts_transcript 340, gorvyts_share 290, gorvyts_open and the lookups on an image 260, gorvyts_check,
+ * gorvyts_numbers, gorvyts_devices and gorvyts_intervals 240, gorvyts_fresh 90, gorvyts_owner_in and
  * gorvyts_copies_in 4. A thread of 256 KB is too small for most of them: it ends the process.
  *
  * Cost: every call on an image reads and checks all of it, which takes far longer than the lookup itself; a

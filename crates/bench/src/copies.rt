@@ -3,6 +3,7 @@ use crate::checksums::mix;
 use crate::checksums::wide16;
 use crate::checksums::wide32;
 use lookups::Counters;
+use slicing::MAX_INTERVALS;
 
 // A checksum with the first three of a list of owners.
 fn mix_owners(x: u64, owners: &[u16; 8]) -> u64 {
@@ -16,8 +17,8 @@ fn mix_owners(x: u64, owners: &[u16; 8]) -> u64 {
 // each lookup answers.
 #[no_mangle]
 pub extern "C" fn bench_lookups_run<'a>(
-    starts: &'a [u32; 4096],
-    owners: &'a [u16; 4096],
+    starts: &'a [u32; MAX_INTERVALS],
+    owners: &'a [u16; MAX_INTERVALS],
     intervals: usize,
     devices: usize,
     range: u64,

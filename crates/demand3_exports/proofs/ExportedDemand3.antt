@@ -23,17 +23,17 @@ use Rattle.slicing.proofs.Changes.{outside-false, or-false}
 use Rattle.slicing.proofs.Claims.{valid-fresh}
 use Rattle.slicing_core.specs.Rows.{at}
 use Rattle.pools.specs.Pools.{poolOf}
-use Rattle.image_changes.specs.FlatMoves.{movesIn, flat}
+use Rattle.flat_moves.specs.FlatMoves.{movesIn, flat}
 use Rattle.pools.specs.declared.Pool.{Pool}
-use Rattle.image_changes.proofs.FlatLists.{length-flat}
+use Rattle.flat_moves.proofs.FlatLists.{length-flat}
 use Rattle.placement.specs.Promises as Lists
-use Rattle.images.specs.Format.{imageOf, rangeIn, limitIn, stateIn, Image}
+use Rattle.image_numbers.specs.Format.{imageOf, rangeIn, limitIn, stateIn, Image}
 use Rattle.images.specs.Promises as Images
-use Rattle.images.specs.RowBytes.{poolIn}
+use Rattle.image_bytes.specs.RowBytes.{poolIn}
 use Rattle.images.proofs.ImageLaws.{image-imageOf}
 use Rattle.images.proofs.PoolsRead.{poolOf-stateIn}
 use Rattle.images.specs.OnImages.{OnImage, unmarked, versioned, faulty, accepted}
-use Rattle.gorvyts.specs.Promises.{Checked, Stored, unstored, FreshStored}
+use Rattle.image_making.specs.Promises.{Checked, Stored, unstored, FreshStored}
 use Rattle.image_changes.specs.Promises.{Moved, unmoved, movedAs, Changed}
 use Rattle.demand3.specs.CallLists.{feedStep}
 use Rattle.demand3.specs.ImageLedger.{ledgerIn}

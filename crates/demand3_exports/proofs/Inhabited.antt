@@ -18,12 +18,12 @@ use Rattle.slicing.specs.Changes.{fresh, Change}
 use Rattle.slicing.specs.Ledger.{Ledger, blank}
 use Rattle.slicing.specs.Limits.{maxRange, maxLimit, outside}
 use Rattle.slicing_core.specs.Rows.{at}
-use Rattle.images.specs.Format.{headSize, imageOf, rangeIn, limitIn, stateIn, Image}
-use Rattle.images.specs.RowBytes.{poolIn}
-use Rattle.images.proofs.ImageSizes.{length-imageOf}
+use Rattle.image_numbers.specs.Format.{headSize, imageOf, rangeIn, limitIn, stateIn, Image}
+use Rattle.image_bytes.specs.RowBytes.{poolIn}
+use Rattle.image_numbers.proofs.ImageSizes.{length-imageOf}
 use Rattle.images.specs.OnImages.{accepted}
 use Rattle.image_changes.specs.Promises.{Moved, movedAs, Changed}
-use Rattle.gorvyts.specs.Promises.{Stored, FreshStored}
+use Rattle.image_making.specs.Promises.{Stored, FreshStored}
 use Rattle.demand3.specs.CallLists.{feedStep}
 use Rattle.demand3.specs.ImageLedger.{ledgerIn}
 use Rattle.demand3.proofs.Demand3.{Ready, ready}

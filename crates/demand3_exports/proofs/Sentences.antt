@@ -30,15 +30,15 @@ use Rattle.slicing.specs.SixSteps as Six
 use Rattle.slicing_core.specs.Rows.{at}
 use Rattle.slicing_core.proofs.Rows.{length-deviceRows}
 use Rattle.pools.specs.Pools.{stateOf, poolOf}
-use Rattle.image_changes.specs.FlatMoves.{movesIn}
+use Rattle.flat_moves.specs.FlatMoves.{movesIn}
 use Rattle.pools.proofs.PoolLaws.{stateOf-poolOf, length-tableRows}
 use Rattle.placement.specs.Promises.{moveOf, rowOf}
-use Rattle.images.specs.Format.{imageOf, rangeIn, limitIn, devicesIn, intervalsIn, idsIn, capacitiesIn, startsIn, ownersIn, stateIn, Image}
-use Rattle.images.specs.RowBytes.{poolIn}
-use Rattle.images.proofs.ImageSizes.{length-imageOf}
+use Rattle.image_numbers.specs.Format.{imageOf, rangeIn, limitIn, devicesIn, intervalsIn, idsIn, capacitiesIn, startsIn, ownersIn, stateIn, Image}
+use Rattle.image_bytes.specs.RowBytes.{poolIn}
+use Rattle.image_numbers.proofs.ImageSizes.{length-imageOf}
 use Rattle.images.proofs.PoolsRead.{stateOf-poolIn}
 use Rattle.images.specs.OnImages.{unmarked, versioned, faulty, accepted}
-use Rattle.gorvyts.specs.Promises.{Checked}
+use Rattle.image_making.specs.Promises.{Checked}
 use Rattle.demand3.specs.CallLists.{written, feedStep}
 use Rattle.demand3.specs.Demand3.{Agreement, Rival}
 use Rattle.demand3.specs.Points.{countOf, InMove, inMoves, moveAt, holds}

@@ -23,13 +23,13 @@ use Rattle.slicing.specs.SixSteps.{Turn, turns, newTable, moves}
 use Rattle.slicing.specs.Validity.{Valid}
 use Rattle.slicing.proofs.Changes.{valid-change, change-refused}
 use Rattle.pools.specs.Pools.{stateOf, poolOf}
-use Rattle.image_changes.specs.FlatMoves.{movesIn, flat}
+use Rattle.flat_moves.specs.FlatMoves.{movesIn, flat}
 use Rattle.placement.specs.declared.ChangeAnswer.{ChangeAnswer}
 use Rattle.placement.specs.Promises.{moveOf, rowOf, Answered, Changed}
 use Rattle.placement.specs.declared.Move.{Move}
-use Rattle.image_changes.proofs.FlatLists.{movesIn-flat}
-use Rattle.images.specs.Format.{imageOf, stateIn, Image}
-use Rattle.images.specs.RowBytes.{poolIn}
+use Rattle.flat_moves.proofs.FlatLists.{movesIn-flat}
+use Rattle.image_numbers.specs.Format.{imageOf, stateIn, Image}
+use Rattle.image_bytes.specs.RowBytes.{poolIn}
 use Rattle.images.proofs.ImageLaws.{stateIn-imageOf, image-imageOf}
 use Rattle.images.proofs.PoolsRead.{stateOf-poolIn, poolIn-valid, poolOf-stateIn}
 use Rattle.demand3.proofs.Demand3.{map-back}

@@ -10,10 +10,10 @@ use lib.ListN.{length, take, drop}
 use Rattle.slicing.specs.Changes.{change}
 use Rattle.slicing.specs.Ledger.{Ledger, blank}
 use Rattle.slicing_core.specs.Rows.{at}
-use Rattle.image_changes.specs.FlatMoves.{movesIn}
-use Rattle.images.specs.Format.{imageOf, rangeIn, limitIn, stateIn, Image}
-use Rattle.images.specs.RowBytes.{poolIn}
-use Rattle.gorvyts.specs.Promises.{Stored, FreshStored, Checked}
+use Rattle.flat_moves.specs.FlatMoves.{movesIn}
+use Rattle.image_numbers.specs.Format.{imageOf, rangeIn, limitIn, stateIn, Image}
+use Rattle.image_bytes.specs.RowBytes.{poolIn}
+use Rattle.image_making.specs.Promises.{Stored, FreshStored, Checked}
 use Rattle.demand3.specs.CallLists.{feedStep}
 use Rattle.demand3.specs.Demand3.{Agreement}
 use Rattle.demand3.specs.Demand3 as Calls

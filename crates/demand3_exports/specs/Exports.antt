@@ -15,8 +15,8 @@ use lib.ListN.{take}
 use Rattle.slicing.specs.Changes.{Change}
 use Rattle.slicing.specs.Ledger.{Ledger}
 use Rattle.slicing_core.specs.Rows.{at}
-use Rattle.image_changes.specs.FlatMoves.{movesIn}
-use Rattle.images.specs.RowBytes.{poolIn}
+use Rattle.flat_moves.specs.FlatMoves.{movesIn}
+use Rattle.image_bytes.specs.RowBytes.{poolIn}
 use Rattle.placement.specs.Promises.{rowOf}
 use Rattle.image_changes.specs.Promises.{Moved, Changed}
 use Rattle.demand3.specs.CallLists.{Step, feedStep}

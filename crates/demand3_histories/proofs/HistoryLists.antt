@@ -28,9 +28,10 @@ use Rattle.history_lines.specs.Lines.{rangeOutside, lineIn}
 use Rattle.history_numbers.specs.Text.{lineEnd, split}
 use Rattle.history_lines.proofs.LineLimits.{line-fits, refused-fits, range-limits}
 use Rattle.history_printing.specs.Printing.{fields}
+use Rattle.history_steps.specs.Steps.{Reading, start, refusal, places, applied}
 use Rattle.history.specs.Histories.{lastOf, linesOf, readAll, printedLines, unfinished}
 use Rattle.history.specs.Histories as Histories
-use Rattle.history.specs.Replay.{Reading, start, refusal, places, applied, printedLine, printedTable, replayed}
+use Rattle.history.specs.Replay.{printedLine, printedTable, replayed}
 use Rattle.history.proofs.ReplayLaws.{fresh-valid, readAll-join, poolAfter-valid, printedLines-join, replayed-text}
 use Rattle.demand3.specs.CallLists.{Step, Call, callsOf, Kept, poolAfter}
 use Rattle.demand3.specs.Openings.{Opening}

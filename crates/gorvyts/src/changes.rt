@@ -1,6 +1,6 @@
 // Changes of the pool that an image describes.
+use calls::Call;
 use image_changes::change_image;
-use plans::Call;
 ghost use Rattle.slicing.specs.Changes as Changes;
 ghost use Rattle.image_changes.specs.Promises.{Changed};
 

@@ -1,6 +1,7 @@
 // Lookups in the pool that an image describes, and in a pool that was opened from one.
 use slicing::MAX_INTERVALS;
-ghost use Rattle.image_lookups.specs.Promises.{Owned, CopiedOne, CopiedMany, OpenedFrom, OwnedIn, CopiedOneIn};
+ghost use Rattle.image_lookups.specs.Promises.{Owned, CopiedOne, CopiedMany};
+ghost use Rattle.opened_lookups.specs.Promises.{OpenedFrom, OwnedIn, CopiedOneIn};
 
 // The owner of a point; answer: its id. 14 to 16 as of `gorvyts_check`; 13 where the point is at or above the
 // range, then 10 where no device is present.
@@ -57,7 +58,7 @@ pub extern "C" fn gorvyts_open(
     ensures { λ r. ⌜ OpenedFrom (now (image .entry)) (now (starts .entry)) (now (owners .entry)) (now (numbers .entry))
         (record { number = r; starts = now (starts .exit); owners = now (owners .exit); numbers = now (numbers .exit) }) ⌝ }
 {
-    image_lookups::open(image, &mut *starts, &mut *owners, &mut *numbers)
+    opened_lookups::open(image, &mut *starts, &mut *owners, &mut *numbers)
 }
 
 // The owner of a point of an opened pool; answer: its id. 13 where the point is at or above the range, then 10
@@ -73,7 +74,7 @@ pub extern "C" fn gorvyts_owner_in<'a>(
     ensures { λ r. ⌜ OwnedIn (now (starts .entry)) (now (owners .entry)) (now (numbers .entry)) point (now (answer .entry))
         (record { number = r; places = now (answer .exit) }) ⌝ }
 {
-    image_lookups::opened_owner(starts, owners, numbers, point, &mut *answer)
+    opened_lookups::opened_owner(starts, owners, numbers, point, &mut *answer)
 }
 
 // The copies of one block of an opened pool; tally and row as of `gorvyts_copies`. 17 where the tally has under
@@ -91,5 +92,5 @@ pub extern "C" fn gorvyts_copies_in<'a>(
     ensures { λ r. ⌜ CopiedOneIn (now (starts .entry)) (now (owners .entry)) (now (numbers .entry)) block k (now (tally .entry)) (now (row .entry))
         (record { number = r; tally = now (tally .exit); rows = now (row .exit) }) ⌝ }
 {
-    image_lookups::opened_copies(starts, owners, numbers, block, k, &mut *tally, &mut *row)
+    opened_lookups::opened_copies(starts, owners, numbers, block, k, &mut *tally, &mut *row)
 }

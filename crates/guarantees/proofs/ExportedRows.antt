@@ -15,7 +15,7 @@ use Rattle.slicing.specs.Changes.{State}
 use Rattle.slicing.specs.Devices.{present}
 use Rattle.slicing.specs.ShareRule.{shareOf}
 use Rattle.answers.specs.Answers.{Answer}
-use Rattle.images.specs.Format.{stateIn, Image}
+use Rattle.image_numbers.specs.Format.{stateIn, Image}
 use Rattle.image_rows.specs.Promises.{Numbered, deviceNumbers, intervalNumbers, Listed, Shared}
 use Rattle.image_rows.proofs.ThreeNumbers.{length-devicesWith, length-intervalsAs}
 use Rattle.guarantees.proofs.Conditions.{Inside, inside-false, inside-true}

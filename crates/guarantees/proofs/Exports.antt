@@ -33,23 +33,25 @@ use Rattle.slicing.specs.Runs.{Run, ownerAt}
 use Rattle.slicing.specs.SixSteps.{Move, points}
 use Rattle.slicing_core.specs.Rows.{at}
 use Rattle.pools.specs.Pools.{startsOf, ownersOf}
-use Rattle.image_changes.specs.FlatMoves.{movesIn, flat}
+use Rattle.flat_moves.specs.FlatMoves.{movesIn, flat}
 use Rattle.lookup_core.specs.Halving.{ownerFound}
 use Rattle.lookup_core.specs.Probes.{pointOf, choose}
 use Rattle.lookup_core.proofs.Choosing.{firsts}
 use Rattle.lookups.specs.Copies.{copiesOf}
 use Rattle.lookups.specs.Promises.{ownerAnswer}
 use Rattle.lookups.specs.declared.Counters.{Counters}
-use Rattle.images.specs.Format.{imageOf, versionIn, stateIn, marked, Sound, Image}
-use Rattle.images.proofs.ImageSizes.{length-imageOf}
+use Rattle.image_numbers.specs.Format.{imageOf, versionIn, stateIn, marked, Sound, Image}
+use Rattle.image_numbers.proofs.ImageSizes.{length-imageOf}
 use Rattle.history.specs.Histories.{poolAfter}
 use Rattle.history.specs.Replay.{replayed, transcript}
 use Rattle.images.specs.OnImages.{OnImage, unmarked, versioned, faulty, accepted}
 use Rattle.answers.specs.Answers.{Answer}
 use Rattle.image_changes.specs.Promises.{Moved, Changed}
-use Rattle.image_lookups.specs.Promises.{ownerTold, Owned, CopiesLeft, outcomeOf, copiedBy, CopiedOne, rowOf, countersIn, tallyOf, countedBy, rowsFor, countedFor, CopiedMany, OpenedMemory, OpenedFrom, OwnedIn, CopiedOneIn}
-use Rattle.gorvyts.specs.Promises.{Checked, Stored, FreshStored, ReplayStored, Transcript}
-use Rattle.image_lookups.proofs.OpenedLookups as Opened
+use Rattle.lookup_numbers.specs.Told.{ownerTold, rowOf, countersIn, tallyOf}
+use Rattle.image_lookups.specs.Promises.{Owned, CopiesLeft, outcomeOf, copiedBy, CopiedOne, countedBy, rowsFor, countedFor, CopiedMany}
+use Rattle.opened_lookups.specs.Promises.{OpenedMemory, OpenedFrom, OwnedIn, CopiedOneIn}
+use Rattle.image_making.specs.Promises.{Checked, Stored, FreshStored, ReplayStored, Transcript}
+use Rattle.opened_lookups.proofs.OpenedLookups as Opened
 use Rattle.guarantees.proofs.ChangeRules.{Stops, add-two, remove-two, resize-two, add-four, remove-five, resize-five, remove-seven, add-six, eight, nine, Passes, stops, passes}
 use Rattle.guarantees.proofs.Conditions.{Inside, two-inside, two-outside}
 use Rattle.guarantees.proofs.CopyRules.{NoCopies, eleven, ten, twelve, HasCopies, no-copies, has-copies, no-copies-number, length-owners}

@@ -29,11 +29,13 @@ use Rattle.history_lines.specs.declared.lines.LineAnswer.the-variants.{Range, A
 use Rattle.history_numbers.specs.declared.numbers.CapacityAnswer.{CapacityAnswer}
 use Rattle.history_numbers.specs.declared.numbers.CapacityAnswer.the-variants as Capacity
 use Rattle.history_numbers.specs.declared.numbers.Parsed.the-variants as Word
+use Rattle.history_steps.specs.Promises.{resultLine, refused, appliedLine, Applied}
+use Rattle.history_steps.specs.Steps.{places}
+use Rattle.history_steps.specs.declared.applying.History.{History}
+use Rattle.history_steps.specs.declared.applying.LineResult.{LineResult}
 use Rattle.history.specs.Histories.{poolAfter}
-use Rattle.history.specs.Promises.{transcriptReply, resultLine, refused, appliedLine, Applied, Transcribed, Left}
-use Rattle.history.specs.Replay.{places, replayed, transcript}
-use Rattle.history.specs.declared.applying.History.{History}
-use Rattle.history.specs.declared.applying.LineResult.{LineResult}
+use Rattle.history.specs.Promises.{transcriptReply, Transcribed, Left}
+use Rattle.history.specs.Replay.{replayed, transcript}
 use Rattle.history.specs.declared.transcripts.TranscriptAnswer.{TranscriptAnswer}
 use Rattle.history.specs.declared.transcripts.TranscriptAnswer.the-variants as Text
 use Rattle.guarantees.proofs.ChangeRules.{Stops, Passes, stops, passes}

@@ -11,7 +11,7 @@ use borrow.Author.Tests.{lt-ltb, le-ltb, le-leb, lt-leb, eq-eqb, ne-eqb}
 use Rattle.pools.specs.Pools.{stateOf, poolOf, ValidPool}
 use Rattle.pools.specs.declared.Pool.{Pool}
 use Rattle.pools.specs.declared.PoolAnswer.{PoolAnswer}
-use Rattle.images.specs.Format.{imageOf, numberAt, versionIn, stateIn, marked, Sound}
+use Rattle.image_numbers.specs.Format.{imageOf, numberAt, versionIn, stateIn, marked, Sound}
 use Rattle.images.specs.Promises.{refusal, ReadAs, unmarked, versioned, faulty, accepted, writeReply, WrittenAs}
 use Rattle.images.specs.declared.WriteAnswer.{WriteAnswer}
 use Rattle.images.specs.declared.WriteAnswer.the-variants.{Written, Refused}

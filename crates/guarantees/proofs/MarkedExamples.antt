@@ -1,4 +1,4 @@
--- The examples of document 01, 'Marked for proof', on what the calls answer: K1 to K4 of `history::capacity`, K5 of `pools::share`, K12 of
+-- The examples of document 01, 'Marked for proof', on what the calls answer: K1 to K4 of `history::capacity`, K5 of `valid_pools::share`, K12 of
 -- `lookups::point`. K6 to K11 are those of the rules, whose outcomes the changes answer (Changes.antt).
 -- Document 01's example of a history, of `history::transcript`: example-printed, empty-printed, unfinished-printed.
 use mathlib.Core.Path.{_≡_, ap, _∙_}
@@ -16,10 +16,10 @@ use Rattle.slicing.specs.ShareRule.{shares}
 use Rattle.slicing.specs.SixSteps.{move}
 use Rattle.slicing.proofs.Cases.{places}
 use Rattle.pools.specs.Pools.{stateOf, ValidPool}
-use Rattle.pools.specs.Promises.{Shared}
+use Rattle.valid_pools.specs.Promises.{Shared}
 use Rattle.pools.specs.declared.Pool.{Pool}
-use Rattle.pools.specs.declared.ShareAnswer.{ShareAnswer}
-use Rattle.pools.specs.declared.ShareAnswer.the-variants.{Share}
+use Rattle.valid_pools.specs.declared.ShareAnswer.{ShareAnswer}
+use Rattle.valid_pools.specs.declared.ShareAnswer.the-variants.{Share}
 use Rattle.lookup_core.specs.Probes.{pointOf, scaled}
 use Rattle.lookups.specs.Promises.{Located}
 use Rattle.lookups.specs.declared.PointAnswer.{PointAnswer}

@@ -1,4 +1,4 @@
--- The outcomes of `pools::fresh`, `valid` and `share`.
+-- The outcomes of `pools::fresh`, `valid_pools::valid` and `share`.
 --
 --   WithoutDevices R M p     p has the range R and the limit M, and nothing else
 -- fresh: fresh-outside (2), fresh-inside
@@ -11,11 +11,12 @@ use lib.ListN.{replicate}
 use Rattle.slicing.specs.ShareRule.{shareOf}
 use Rattle.slicing_core.specs.Stages.{Decides}
 use Rattle.pools.specs.Pools.{stateOf, poolOf, ValidPool}
-use Rattle.pools.specs.Promises.{Fresh, shareReply, Shared}
+use Rattle.pools.specs.Promises.{Fresh}
+use Rattle.valid_pools.specs.Promises.{shareReply, Shared}
 use Rattle.pools.specs.declared.Pool.{Pool}
 use Rattle.pools.specs.declared.PoolAnswer.{PoolAnswer}
-use Rattle.pools.specs.declared.ShareAnswer.{ShareAnswer}
-use Rattle.pools.specs.declared.ShareAnswer.the-variants.{Share, Refused}
+use Rattle.valid_pools.specs.declared.ShareAnswer.{ShareAnswer}
+use Rattle.valid_pools.specs.declared.ShareAnswer.the-variants.{Share, Refused}
 use Rattle.demand3.specs.Points.{Listed}
 use Rattle.guarantees.proofs.Conditions.{Inside, inside-false, inside-true, two-inside, two-outside, Decided, within, without, Says, says, listed-present, unlisted-absent}
 

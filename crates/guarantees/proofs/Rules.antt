@@ -32,7 +32,7 @@ use Rattle.lookup_core.proofs.Choosing.{firsts, Probed}
 use Rattle.lookups.specs.CounterLists.{Lookup, Kept, accepted, probesOf, left}
 use Rattle.lookups.specs.declared.Counters.{Counters}
 use Rattle.lookups.proofs.CounterLists as Counted
-use Rattle.images.specs.Format.{imageOf}
+use Rattle.image_numbers.specs.Format.{imageOf}
 use Rattle.images.specs.Promises.{ReadAs, WrittenAs}
 use Rattle.images.specs.declared.WriteAnswer.{WriteAnswer}
 use Rattle.images.specs.declared.WriteAnswer.the-variants.{Written}
@@ -41,8 +41,9 @@ use Rattle.slicing_core.specs.Rows.{at}
 use Rattle.history_lines.specs.Lines.{lineIn}
 use Rattle.history_numbers.specs.Text.{split}
 use Rattle.history_lines.specs.declared.lines.LineAnswer.{LineAnswer}
+use Rattle.history_steps.specs.Steps.{Reading, start, applied}
 use Rattle.history.specs.Histories.{lastOf, linesOf, textOf, Complete, lineEnds, lineCount, readAll, poolAfter, acceptedLines, printedLines, unfinished}
-use Rattle.history.specs.Replay.{Reading, start, applied, replay, replayed, transcript, printedTable}
+use Rattle.history.specs.Replay.{replay, replayed, transcript, printedTable}
 use Rattle.history.proofs.PrintedLines as PrintedLines
 use Rattle.history.proofs.ReplayLaws as ReplayLaws
 use Rattle.history.proofs.TextLines as TextLines

@@ -2,11 +2,8 @@ pub mod Examples
 pub mod TextLines
 pub mod ReplayLaws
 pub mod PrintedLines
-pub mod AppliedLines
 pub mod ReplayBounds
 pub mod ReplayParts
-pub mod OpenReadings
-pub mod AdvancedLines
 pub mod Replaying
 pub mod PoolsLeft
 pub mod PrintedTables

@@ -14,9 +14,10 @@ use Rattle.pools.specs.declared.Pool.{Pool}
 use Rattle.slicing.specs.Changes.{fresh}
 use Rattle.history_lines.specs.declared.lines.Part.{Part}
 use Rattle.history_lines.specs.Cuts.{partAt}
+use Rattle.history_steps.specs.Steps.{Reading, start, applied}
 use Rattle.history.specs.Histories.{linesOf, readAll}
 use Rattle.history.specs.Promises.{Left}
-use Rattle.history.specs.Replay.{Reading, start, applied, maxText}
+use Rattle.history.specs.Replay.{maxText}
 use Rattle.history.proofs.ReplayParts.{readAll-part}
 
 module _ (text : List ℕ) where

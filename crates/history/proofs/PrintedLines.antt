@@ -17,8 +17,9 @@ use Rattle.slicing.proofs.Counting.{count-append}
 use Rattle.history_lines.specs.Lines.{lineIn}
 use Rattle.history_numbers.specs.Text.{lineEnd, space, zeroDigit, split}
 use Rattle.history_printing.specs.Printing.{digits, decimal, fields, printedRows}
+use Rattle.history_steps.specs.Steps.{Reading, start, Result, applied}
 use Rattle.history.specs.Histories.{allButLast, lineEnds, lineCount, readAll, poolAfter, spaced, printedLines}
-use Rattle.history.specs.Replay.{Reading, start, Result, applied, printedTable, replay, replayed}
+use Rattle.history.specs.Replay.{printedTable, replay, replayed}
 use Rattle.history.proofs.ReplayLaws.{replay-cons}
 
 -- ---- numbers

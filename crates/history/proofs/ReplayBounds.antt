@@ -20,7 +20,7 @@ use Rattle.slicing.proofs.Claims.{claim-valid}
 use Rattle.slicing.proofs.ShareRule.{total-shares}
 use Rattle.history_lines.specs.declared.lines.LineAnswer.{LineAnswer}
 use Rattle.history_lines.specs.declared.lines.LineAnswer.the-variants.{Range, Add, Remove, Resize, Refused}
-use Rattle.history.specs.Replay.{Reading, Result, places, changed, applied}
+use Rattle.history_steps.specs.Steps.{Reading, Result, places, changed, applied}
 
 reductions-most : (has due : List (Run ℕ)) → reductions has due ≤ total has
 reductions-most [] due = omega arith

@@ -26,8 +26,9 @@ use Rattle.history_lines.specs.declared.lines.LineAnswer.the-variants.{Range, A
 use Rattle.history_lines.specs.Lines.{rangeOutside, lineIn}
 use Rattle.history_numbers.specs.Text.{lineEnd, split}
 use Rattle.history_lines.proofs.LineLimits.{line-fits, range-limits}
+use Rattle.history_steps.specs.Steps.{Reading, start, Result, places, changed, applied}
 use Rattle.history.specs.Histories.{lastOf, linesOf, textOf, Whole, Complete, readAll, poolAfter, acceptedLines, printedLines, unfinished}
-use Rattle.history.specs.Replay.{Reading, start, Result, places, changed, applied, printedLine, printedTable, replay, maxText, replayed, transcript}
+use Rattle.history.specs.Replay.{printedLine, printedTable, replay, maxText, replayed, transcript}
 use Rattle.history.proofs.TextLines.{parts-some, parts-last, lines-join, parts-join, parts-complete, complete-join, lines-whole, lines-textOf}
 
 -- ---- a line

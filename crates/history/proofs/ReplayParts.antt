@@ -12,8 +12,9 @@ use Rattle.history_lines.specs.Cuts.{partAt}
 use Rattle.history_numbers.specs.Text.{lineEnd, split}
 use Rattle.history_numbers.proofs.Splitting.{split-whole, split-cut}
 use Rattle.history_lines.proofs.TextParts.{restAt, endAt, endedPart, part-cases}
+use Rattle.history_steps.specs.Steps.{Reading, refusal, applied}
 use Rattle.history.specs.Histories.{allButLast, linesOf, readAll}
-use Rattle.history.specs.Replay.{Reading, refusal, applied, printedLine, printedTable, replay}
+use Rattle.history.specs.Replay.{printedLine, printedTable, replay}
 use Rattle.history.proofs.ReplayLaws.{replay-cons}
 use Rattle.history.proofs.TextLines.{parts-some, allButLast-cons}
 

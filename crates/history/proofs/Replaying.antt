@@ -28,9 +28,10 @@ use Rattle.history_lines.proofs.TextParts.{part-above, part-within}
 use Rattle.history_printing.specs.Printing.{fields}
 use Rattle.history_printing.proofs.Decimals.{length-fields4}
 use Rattle.history_printing.proofs.PutBehind.{put-room}
-use Rattle.history.specs.Advances.{Advanced}
-use Rattle.history.specs.declared.advancing.Step.{Step}
-use Rattle.history.specs.Replay.{Reading, start, applied, printedTable, replay, replayed}
+use Rattle.history_steps.specs.Advances.{Advanced}
+use Rattle.history_steps.specs.declared.advancing.Step.{Step}
+use Rattle.history_steps.specs.Steps.{Reading, start, applied}
+use Rattle.history.specs.Replay.{printedTable, replay, replayed}
 use Rattle.history.proofs.ReplayBounds.{Small, applied-small}
 use Rattle.history.proofs.ReplayParts.{replay-part}
 

@@ -24,7 +24,8 @@ use Rattle.slicing.specs.Runs.{count}
 use Rattle.history_numbers.specs.Text.{lineEnd, space, split}
 use Rattle.history_lines.specs.Lines.{lineIn}
 use Rattle.history_printing.specs.Printing.{decimal, fields}
-use Rattle.history.specs.Replay.{Reading, start, applied, printedLine}
+use Rattle.history_steps.specs.Steps.{Reading, start, applied}
+use Rattle.history.specs.Replay.{printedLine}
 
 -- ---- lines
 

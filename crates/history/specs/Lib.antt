@@ -1,4 +1,3 @@
 pub mod Replay
 pub mod Histories
 pub mod Promises
-pub mod Advances

@@ -1,12 +1,12 @@
 // The pool that a history text leaves.
-use crate::advancing::advance;
 use crate::transcripts::LONGEST;
 use history_lines::LineAnswer;
 use history_lines::part_at;
+use history_steps::advance;
 use opened::making::without_devices;
+use packed_runs::ROOM;
 use pools::PoolAnswer;
 use pools::close;
-use six_steps::runs::ROOM;
 use slicing::OUTSIDE;
 ghost use Rattle.history.specs.Promises.{Left};
 

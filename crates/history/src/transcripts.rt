@@ -1,11 +1,11 @@
 // What `slices` prints of a history text.
-use crate::advancing::advance;
 use history_lines::LineAnswer;
 use history_lines::part_at;
 use history_printing::put_line;
 use history_printing::put_rows;
 use history_printing::put_text;
 use history_printing::wide32;
+use history_steps::advance;
 use opened::making::without_devices;
 use pools::Pool;
 use pools::close;
@@ -56,9 +56,9 @@ fn replay(text: &[u8], out: &mut [u8]) -> usize
     ensures place { λ r. ⌜ r ≡ length (replayed (now (text .entry))) ⌝ }
     ensures text { λ r. ⌜ now (out .exit) ≡ replayed (now (text .entry)) ++ drop (length (replayed (now (text .entry)))) (now (out .entry)) ⌝ }
 {
-    let mut table = [0u64; six_steps::runs::ROOM];
-    let mut work = [0u64; six_steps::runs::ROOM];
-    let mut next = [0u64; six_steps::runs::ROOM];
+    let mut table = [0u64; packed_runs::ROOM];
+    let mut work = [0u64; packed_runs::ROOM];
+    let mut next = [0u64; packed_runs::ROOM];
     let mut begun = false;
     let mut pool = without_devices(1, 1);
     let mut line = 1;

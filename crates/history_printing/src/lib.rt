@@ -1,4 +1,5 @@
 // What `slices` prints, written into a buffer: lines of numbers, the rows of a table, a text. Internal.
+use slicing::MAX_INTERVALS;
 ghost use mathlib.Core.Path.{_≡_};
 ghost use mathlib.Core.List.{[], _∷_, _++_};
 ghost use Prim.Native.Nat.{_+_, _*_, _≤_, _<_, _^_};
@@ -72,7 +73,7 @@ pub fn wide32(x: u32) -> u64
 }
 
 // Where interval i ends: at the next start, the last one at the range's end.
-fn end_of(starts: &[u32; 4096], i: usize, q: usize, range: u64) -> u64
+fn end_of(starts: &[u32; MAX_INTERVALS], i: usize, q: usize, range: u64) -> u64
     requires { ⌜ (i < q) × (q ≤ 4096) ⌝ }
     ensures { λ r. ⌜ r ≡ cond (ltb (i + 1) q) (at (now (starts .entry)) (i + 1)) range ⌝ }
 {
@@ -86,8 +87,8 @@ fn end_of(starts: &[u32; 4096], i: usize, q: usize, range: u64) -> u64
 pub fn put_rows(
     out: &mut [u8],
     place: usize,
-    starts: &[u32; 4096],
-    owners: &[u16; 4096],
+    starts: &[u32; MAX_INTERVALS],
+    owners: &[u16; MAX_INTERVALS],
     q: usize,
     range: u64,
 ) -> usize

@@ -1,3 +1,1 @@
-pub mod FlatLists
-pub mod WrittenMoves
 pub mod MovedLists

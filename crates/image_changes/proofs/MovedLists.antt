@@ -17,7 +17,7 @@ use Rattle.slicing.specs.Runs.{intervals}
 use Rattle.slicing.specs.SixSteps.{Move, movesFrom}
 use Rattle.slicing.proofs.Claims.{claim-valid}
 use Rattle.slicing_core.specs.Rows.{at}
-use Rattle.six_steps.specs.Words.{turnsOf}
+use Rattle.packed_runs.specs.Words.{turnsOf}
 use Rattle.six_steps.proofs.Renaming.{moveAs}
 use Rattle.opened.specs.OpenPools.{stateIn, Open}
 use Rattle.opened.specs.declared.Opened.{Opened}
@@ -27,14 +27,14 @@ use Rattle.pools.specs.Pools.{stateOf, poolOf, ValidPool}
 use Rattle.pools.specs.declared.Pool.{Pool}
 use Rattle.pools.specs.declared.PoolAnswer.{PoolAnswer}
 use Rattle.pools.proofs.PoolLaws.{stateOf-poolOf, validPool-poolOf}
-use Rattle.images.specs.Format.{imageOf}
+use Rattle.image_numbers.specs.Format.{imageOf}
 use Rattle.images.specs.Promises.{ReadAs, writeAnswer, bufferAfter}
 use Rattle.images.specs.declared.WriteAnswer.{WriteAnswer}
 use Rattle.images.specs.declared.WriteAnswer.the-variants as Write
 use Rattle.images.proofs.OnImages.{on-image-refused, on-image-accepted}
-use Rattle.image_changes.specs.FlatMoves.{movesIn, flat}
+use Rattle.flat_moves.specs.FlatMoves.{movesIn, flat}
 use Rattle.image_changes.specs.Promises.{Moved, movedAs, Changed}
-use Rattle.image_changes.proofs.FlatLists.{length-movesIn}
+use Rattle.flat_moves.proofs.FlatLists.{length-movesIn}
 
 -- ---- the answer of a write
 

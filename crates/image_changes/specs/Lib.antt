@@ -1,2 +1,1 @@
-pub mod FlatMoves
 pub mod Promises

@@ -10,9 +10,9 @@ use lib.Dec.{ltb}
 use lib.ListN.{length, drop}
 use Rattle.slicing.specs.Changes.{State, Change, change}
 use Rattle.slicing.specs.Claims.{written}
-use Rattle.images.specs.Format.{imageOf}
+use Rattle.image_numbers.specs.Format.{imageOf}
 use Rattle.images.specs.OnImages.{OnImage}
-use Rattle.image_changes.specs.FlatMoves.{movesIn, flat}
+use Rattle.flat_moves.specs.FlatMoves.{movesIn, flat}
 
 -- the number, the buffer for the new image, the list of moves and the places of the answer, all afterwards
 pub record Moved : Type 0 where

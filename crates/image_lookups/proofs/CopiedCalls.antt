@@ -15,9 +15,10 @@ use Rattle.lookups.specs.Copies.{Outcome}
 use Rattle.lookups.specs.Promises.{Answered, CopiedIn}
 use Rattle.lookups.specs.declared.CopiesAnswer.{CopiesAnswer}
 use Rattle.lookups.specs.declared.Counters.{Counters}
+use Rattle.lookup_numbers.specs.Told.{countersIn, tallyOf}
 use Rattle.images.specs.Promises.{ReadAs}
 use Rattle.images.proofs.OnImages.{on-image-refused, on-image-accepted, on-image-valid}
-use Rattle.image_lookups.specs.Promises.{CopiesLeft, outcomeOf, countersIn, tallyOf, countedBy, copiedBy, CopiedOne, rowsFor, countedFor, CopiedMany}
+use Rattle.image_lookups.specs.Promises.{CopiesLeft, outcomeOf, countedBy, copiedBy, CopiedOne, rowsFor, countedFor, CopiedMany}
 use Rattle.image_lookups.proofs.CopiedRows.{answered-arrays, rowIn-answered}
 
 left-same : {n m : ℕ} {t u w v : List ℕ} → n ≡ m → t ≡ u → w ≡ v

@@ -1,11 +1,8 @@
--- Rows of answers, and the tally.
+-- Rows of answers.
 --
 --   rowIn r                              the row of an answer
 --   Many s k bs before c rows after i     the rows and the counters of the first i blocks of bs
 --
--- put-two (the first two numbers)
--- owners-put (an owner more), owners-all (all eight)
--- put-row (a row of ten numbers), put-zeros (the row of a refusal)
 -- answered-arrays (the answer for a block, from what is promised of the arrays of a valid pool); rowIn-answered
 -- Many: many-none, many-room, many-more, many-all
 use mathlib.Core.Path.{_≡_, refl, sym, ap, _∙_, subst}
@@ -13,8 +10,8 @@ use mathlib.Core.List.{List, [], _∷_, _++_, append-assoc, append-nil}
 use Prim.Native.Nat.{ℕ, _+_, _*_, _-_, _≤_, _<_}
 use native.Mathlib.Numerals.{add-one}
 use native.Mathlib.Omega.{arith}
-use lib.ListN.{length, set, getD, take, drop, replicate, length-append, length-take, length-drop}
-use lib.Seq.{take-all, take-suc, drop-cons, append-snoc, set-at, paste, paste-suc}
+use lib.ListN.{length, getD, take, drop, length-append, length-take, length-drop}
+use lib.Seq.{take-all, take-suc, append-snoc}
 use borrow.Rule.Slice.PartMut.{same-len-mid}
 use Rattle.slicing.specs.Changes.{State}
 use Rattle.slicing.specs.Runs.{ownerAt}
@@ -28,37 +25,8 @@ use Rattle.lookups.specs.Promises.{Answered, CopiedIn}
 use Rattle.lookups.specs.declared.CopiesAnswer.{CopiesAnswer}
 use Rattle.lookups.specs.declared.Counters.{Counters}
 use Rattle.lookups.proofs.Promised.{copied-in}
-use Rattle.image_lookups.specs.Promises.{outcomeOf, rowOf, countedBy, rowsFor, countedFor}
-
--- the first two numbers of a list
-pub put-two : (t : List ℕ) (a b : ℕ) → 2 ≤ length t → set (set t 0 a) 1 b ≡ a ∷ b ∷ drop 2 t
-put-two [] a b h = absurd (omega arith)
-put-two (x ∷ []) a b h = absurd (omega arith)
-put-two (x ∷ y ∷ t) a b h = refl
-
-pub owners-put : (before owners row : List ℕ) (i d : ℕ) → length owners ≡ 8 → 10 ≤ length before → i < 8 → d ≡ getD owners i 0
-    → row ≡ paste before 1 owners i → set row (i + 1) d ≡ paste before 1 owners (i + 1)
-owners-put before owners row i d l h b e f =
-    let p : i + 1 ≡ 1 + i = omega arith in
-    rw (f, e) (ap (λ j. set (paste before 1 owners i) j (getD owners i 0)) p
-    ∙ paste-suc before 1 owners i 0 (omega arith) (omega arith)
-    ∙ ap (paste before 1 owners) (sym (add-one i)))
-
-pub owners-all : (before owners row : List ℕ) (i : ℕ) → length owners ≡ 8 → i ≡ 8 → row ≡ paste before 1 owners i
-    → row ≡ take 1 before ++ owners ++ drop 9 before
-owners-all before owners row i l e f = f ∙ rw (e, take-all 8 owners (omega arith))
-
--- a number, eight owners and the probes
-pub put-row : (row owners row' : List ℕ) (n p : ℕ) → length owners ≡ 8 → 10 ≤ length row
-    → row' ≡ take 1 (set row 0 n) ++ owners ++ drop 9 (set row 0 n) → set row' 9 p ≡ n ∷ owners ++ p ∷ drop 10 row
-put-row [] owners row' n p e h f = absurd (omega arith)
-put-row (x ∷ row) owners row' n p e h f =
-    ap (λ ys. set ys 9 p) f ∙ ap (λ ys. set ((n ∷ owners) ++ ys) 9 p) (drop-cons row 8 0 (omega arith))
-    ∙ set-at (n ∷ owners) _ (drop 9 row) p 9 (omega arith)
-
-pub put-zeros : (row row' : List ℕ) (n : ℕ) → 10 ≤ length row → row' ≡ take 1 (set row 0 n) ++ replicate 8 0 ++ drop 9 (set row 0 n)
-    → set row' 9 0 ≡ n ∷ replicate 9 0 ++ drop 10 row
-put-zeros row row' n h f = put-row row (replicate 8 0) row' n 0 refl h f
+use Rattle.lookup_numbers.specs.Told.{rowOf}
+use Rattle.image_lookups.specs.Promises.{outcomeOf, countedBy, rowsFor, countedFor}
 
 -- ---- one block
 

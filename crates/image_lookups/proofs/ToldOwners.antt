@@ -1,7 +1,6 @@
 -- The call for the owner of a point: what it leaves, from what the calls beneath it answered.
 --
 -- found-state (an owner looked up in the arrays of a valid pool is the state's)
--- told-owner, told-none (an answer put into its place)
 -- owned-short (no place for the answer), owned-refused (a refused image), owned-told (what the lookup answers)
 use mathlib.Core.Path.{_≡_, refl, sym, ap, _∙_}
 use mathlib.Core.List.{List, _∷_}
@@ -15,12 +14,12 @@ use Rattle.pools.specs.declared.Pool.{Pool}
 use Rattle.pools.specs.declared.PoolAnswer.{PoolAnswer}
 use Rattle.lookups.specs.Promises.{ownerAnswer, LookedIn}
 use Rattle.lookups.specs.declared.OwnerAnswer.{OwnerAnswer}
-use Rattle.lookups.specs.declared.OwnerAnswer.the-variants.{Owner, Refused}
 use Rattle.lookups.proofs.Promised.{looked-in}
+use Rattle.lookup_numbers.specs.Told.{ownerTold}
 use Rattle.images.specs.Promises.{ReadAs}
 use Rattle.images.proofs.OnImages.{on-image-refused, on-image-accepted, on-image-valid}
 use Rattle.answers.specs.Answers.{Answer}
-use Rattle.image_lookups.specs.Promises.{ownerTold, Owned}
+use Rattle.image_lookups.specs.Promises.{Owned}
 
 -- what a lookup on the arrays of a pool answers
 abbrev pub Found : Pool → ℕ → OwnerAnswer → Type 0
@@ -33,13 +32,6 @@ unfolding stateOf
 found-state p x w v h =
     looked-in p v x w h .valid v
     ∙ ap (λ (n : ℕ). ownerAnswer (p .range) n x (ownerAt (stateOf p .table) x)) (sym (length-deviceRows (p .ids) (p .capacities) 0 (p .devices)))
-
-module _ (a : List ℕ) (w : OwnerAnswer) where
-  pub told-owner : (d : ℕ) (a' : List ℕ) → w ≡ Owner d → a' ≡ d ∷ drop 1 a → record { number = 0; places = a' } ≡ ownerTold a w
-  told-owner d a' e k = rw (e, k)
-
-  pub told-none : (n : ℕ) (a' : List ℕ) → w ≡ Refused n → a' ≡ 0 ∷ drop 1 a → record { number = n; places = a' } ≡ ownerTold a w
-  told-none n a' e k = rw (e, k)
 
 module _ (xs : List ℕ) (x : ℕ) (a : List ℕ) where
   pub owned-short : length a < 1 → Owned xs x a (record { number = 17; places = a })

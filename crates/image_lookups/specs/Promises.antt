@@ -1,38 +1,26 @@
--- What lookups in the pool that an image describes promise, and in a pool that was opened from one.
+-- What lookups in the pool that an image describes promise.
 --
---   ownerTold, Owned             what the call for an owner leaves: from the lookup's answer; on an image
---   CopiesLeft, rowOf, tallyOf   what a call for copies leaves; the ten numbers of an outcome; the tally afterwards
---   OpenedMemory, openedAs       what opening an image leaves; from the state that the image gives
---   OwnedIn, CopiedOneIn         the lookups on the arrays of an opened pool, of any contents
+--   Owned xs x a r                        r is what the call for the owner of the point x of the image xs leaves of the places a
+--   CopiesLeft, outcomeOf, copiedBy       what a call for copies leaves; the outcome of a block, by the rules; what it leaves
+--   CopiedOne, CopiedMany                 of the image xs, one block or many
 use mathlib.Core.Path.{_≡_}
 use mathlib.Core.Bool.{cond}
 use mathlib.Core.List.{List, [], _∷_, _++_}
-use Prim.Native.Nat.{ℕ, _*_, _/_, _≤_, _<_, min}
+use Prim.Native.Nat.{ℕ, _*_, _/_, _≤_, _<_}
 use lib.Dec.{eqb}
 use lib.ListN.{length, drop, replicate}
 use Rattle.slicing.specs.Changes.{State}
-use Rattle.slicing.specs.Limits.{maxRange}
 use Rattle.slicing.specs.Runs.{ownerAt}
-use Rattle.slicing_core.specs.Rows.{at}
-use Rattle.pools.specs.Pools.{padded, startsOf, ownersOf}
-use Rattle.lookup_core.specs.Halving.{ownerFound, clamped}
 use Rattle.lookup_core.specs.Probes.{pointOf}
-use Rattle.lookup_core.specs.Probing.{ownerOf}
 use Rattle.lookups.specs.Copies.{Outcome, copiesOf}
 use Rattle.lookups.specs.Counting.{counted}
 use Rattle.lookups.specs.Promises.{ownerAnswer}
 use Rattle.lookups.specs.declared.Counters.{Counters}
-use Rattle.lookups.specs.declared.OwnerAnswer.{OwnerAnswer}
-use Rattle.lookups.specs.declared.OwnerAnswer.the-variants.{Owner, Refused}
+use Rattle.lookup_numbers.specs.Told.{ownerTold, rowOf, countersIn, tallyOf}
 use Rattle.images.specs.OnImages.{OnImage}
 use Rattle.answers.specs.Answers.{Answer, zeros}
 
 -- ---- the owner of a point
-
--- the owner's id in the first place, zero there on a refusal
-abbrev pub ownerTold : List ℕ → OwnerAnswer → Answer
-ownerTold a (Refused n) = record { number = n; places = zeros 1 a }
-ownerTold a (Owner d) = record { number = 0; places = d ∷ drop 1 a }
 
 pub record Owned (xs : List ℕ) (x : ℕ) (a : List ℕ) (r : Answer) : Type 0 where
   pub short : length a < 1 → r ≡ record { number = 17; places = a }
@@ -51,17 +39,6 @@ pub record CopiesLeft : Type 0 where
 -- the outcome of a block, by the rules
 abbrev pub outcomeOf : State → ℕ → ℕ → Outcome
 outcomeOf s k block = copiesOf (λ t. ownerAt (s .table) (pointOf block t (s .range))) (length (s .devices)) k
-
--- ten numbers: the refusal number or 0, eight owners, the probes
-abbrev pub rowOf : Outcome → List ℕ
-rowOf u = u .number ∷ u .owners ++ u .probes ∷ []
-
--- the tally is two numbers: lookups and probes
-abbrev pub countersIn : List ℕ → Counters
-countersIn t = record { lookups = at t 0; probes = at t 1 }
-
-abbrev pub tallyOf : Counters → List ℕ → List ℕ
-tallyOf c t = c .lookups ∷ c .probes ∷ drop 2 t
 
 -- an accepted lookup counts, a refused one does not
 abbrev pub countedBy : Outcome → Counters → Counters
@@ -98,48 +75,3 @@ pub record CopiedMany (xs bs : List ℕ) (k : ℕ) (t w : List ℕ) (r : CopiesL
   pub noRows : length w / 10 < length bs → r ≡ record { number = 17; tally = t; rows = w }
   pub room : 2 ≤ length t → length bs ≤ length w / 10
       → OnImage xs (λ n. record { number = n; tally = t; rows = w }) (manyAs bs k t w) r
-
--- ---- an opened pool
-
--- the number, the starts and the owners of the intervals, and three numbers (range, intervals, devices), all afterwards
-pub record OpenedMemory : Type 0 where
-  pub number : ℕ
-  pub starts : List ℕ
-  pub owners : List ℕ
-  pub numbers : List ℕ
-
--- a refusal's number and zeros; the arrays stay
-abbrev pub unopened : ℕ → List ℕ → List ℕ → List ℕ → OpenedMemory
-unopened n s o m = record { number = n; starts = s; owners = o; numbers = 0 ∷ 0 ∷ 0 ∷ drop 3 m }
-
--- the table in the first 4,096 places, those that it does not use 0; the places behind stay
-abbrev pub openedAs : List ℕ → List ℕ → List ℕ → State → OpenedMemory
-openedAs s o m t = record {
-  number = 0;
-  starts = padded 4096 (startsOf 0 (t .table)) ++ drop 4096 s;
-  owners = padded 4096 (ownersOf (t .table)) ++ drop 4096 o;
-  numbers = t .range ∷ length (t .table) ∷ length (t .devices) ∷ drop 3 m;
-}
-
-pub record OpenedFrom (xs s o m : List ℕ) (r : OpenedMemory) : Type 0 where
-  pub noStarts : length s < 4096 → r ≡ record { number = 17; starts = s; owners = o; numbers = m }
-  pub noOwners : length o < 4096 → r ≡ record { number = 17; starts = s; owners = o; numbers = m }
-  pub noNumbers : length m < 3 → r ≡ record { number = 17; starts = s; owners = o; numbers = m }
-  pub room : 4096 ≤ length s → 4096 ≤ length o → 3 ≤ length m → OnImage xs (λ n. unopened n s o m) (openedAs s o m) r
-
--- arrays and numbers of any contents: 13, 10, or the owner that halving finds in them
-abbrev pub answerIn : List ℕ → List ℕ → List ℕ → ℕ → OwnerAnswer
-answerIn s o m x = ownerAnswer (at m 0) (at m 2) x (ownerFound s o (clamped (at m 1)) x)
-
-pub record OwnedIn (s o m : List ℕ) (x : ℕ) (a : List ℕ) (r : Answer) : Type 0 where
-  pub short : length a < 1 → r ≡ record { number = 17; places = a }
-  pub room : 1 ≤ length a → r ≡ ownerTold a (answerIn s o m x)
-
--- arrays and numbers of any contents; a range above the largest is taken as the largest
-abbrev pub outcomeIn : List ℕ → List ℕ → List ℕ → ℕ → ℕ → Outcome
-outcomeIn s o m k block = copiesOf (ownerOf s o (at m 1) (min (at m 0) maxRange) block) (at m 2) k
-
-pub record CopiedOneIn (s o m : List ℕ) (block k : ℕ) (t w : List ℕ) (r : CopiesLeft) : Type 0 where
-  pub noTally : length t < 2 → r ≡ record { number = 17; tally = t; rows = w }
-  pub noRow : length w < 10 → r ≡ record { number = 17; tally = t; rows = w }
-  pub room : 2 ≤ length t → 10 ≤ length w → r ≡ copiedBy t w (outcomeIn s o m k block)

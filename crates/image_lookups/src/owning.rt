@@ -1,30 +1,10 @@
 // The owner of a point. The pool of an image that was read is valid, so the lookup is the one on its arrays,
 // which decides nothing again.
 use answers::put1;
-use lookups::OwnerAnswer;
+use lookup_numbers::put_owner;
 use lookups::owner_in;
 use slicing::SHORT_BUFFER;
-ghost use mathlib.Core.Path.{_≡_};
-ghost use Prim.Native.Nat.{_≤_};
-ghost use lib.ListN.{length};
-ghost use Rattle.image_lookups.specs.Promises.{Owned, ownerTold};
-
-// Puts an owner, or 0 for a refusal, and gives the refusal number or 0.
-pub fn put_owner(answer: &mut [u64], found: OwnerAnswer) -> u32
-    requires { ⌜ 1 ≤ length (now answer) ⌝ }
-    ensures { λ r. ⌜ record { number = r; places = now (answer .exit) } ≡ ownerTold (now (answer .entry)) found ⌝ }
-{
-    match found {
-        OwnerAnswer::Owner(id) => {
-            put1(&mut *answer, id);
-            0
-        }
-        OwnerAnswer::Refused(refusal) => {
-            put1(&mut *answer, 0);
-            refusal
-        }
-    }
-}
+ghost use Rattle.image_lookups.specs.Promises.{Owned};
 
 // The owner of a point; answer: its id. 14 to 16 as of a read; 13 where the point is at or above the
 // range, then 10 where no device is present.

@@ -16,7 +16,7 @@ use Rattle.slicing.specs.Runs.{Run, _of_, total, relabel, intervals}
 use Rattle.slicing_core.specs.Rows.{at, deviceRows}
 use Rattle.slicing_core.proofs.Fronts.{front-put}
 use Rattle.slicing_core.proofs.Rows.{length-deviceRows}
-use Rattle.six_steps.specs.Words.{runs}
+use Rattle.packed_runs.specs.Words.{runs}
 use Rattle.opened.proofs.RowNames.{length-relabel, length-runs}
 use Rattle.image_rows.specs.Promises.{devicesWith, intervalsAs}
 

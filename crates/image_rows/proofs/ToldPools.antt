@@ -16,11 +16,11 @@ use Rattle.opened.specs.declared.Opened.{Opened}
 use Rattle.opened.specs.OpenPools.{devicesIn, stateIn, Open}
 use Rattle.opened.proofs.OpenPools.{open-length}
 use Rattle.pools.specs.Pools.{stateOf}
-use Rattle.pools.specs.Promises as Pools
+use Rattle.valid_pools.specs.Promises as Pools
 use Rattle.pools.specs.declared.Pool.{Pool}
 use Rattle.pools.specs.declared.PoolAnswer.{PoolAnswer}
-use Rattle.pools.specs.declared.ShareAnswer.{ShareAnswer}
-use Rattle.pools.specs.declared.ShareAnswer.the-variants.{Share, Refused}
+use Rattle.valid_pools.specs.declared.ShareAnswer.{ShareAnswer}
+use Rattle.valid_pools.specs.declared.ShareAnswer.the-variants.{Share, Refused}
 use Rattle.pools.proofs.PoolLaws.{length-tableRows}
 use Rattle.images.specs.Promises.{ReadAs}
 use Rattle.images.proofs.OnImages.{on-image-refused, on-image-accepted, on-image-valid}

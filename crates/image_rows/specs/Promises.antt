@@ -16,9 +16,9 @@ use Rattle.slicing.specs.Devices.{Device}
 use Rattle.slicing.specs.Runs.{Interval, intervals}
 use Rattle.slicing.specs.ShareRule.{shareOf}
 use Rattle.answers.specs.Answers.{Answer, zeros}
-use Rattle.pools.specs.Promises.{shareAnswer}
-use Rattle.pools.specs.declared.ShareAnswer.{ShareAnswer}
-use Rattle.pools.specs.declared.ShareAnswer.the-variants.{Share, Refused}
+use Rattle.valid_pools.specs.Promises.{shareAnswer}
+use Rattle.valid_pools.specs.declared.ShareAnswer.{ShareAnswer}
+use Rattle.valid_pools.specs.declared.ShareAnswer.the-variants.{Share, Refused}
 use Rattle.images.specs.OnImages.{OnImage}
 
 -- four numbers; 17 where the answer has under four places, and all stays

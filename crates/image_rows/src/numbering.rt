@@ -1,8 +1,8 @@
 // The numbers of an image's pool, and the share of one device.
 use answers::put1;
 use answers::put4;
-use pools::ShareAnswer;
 use slicing::SHORT_BUFFER;
+use valid_pools::ShareAnswer;
 ghost use Rattle.image_rows.specs.Promises.{Numbered, Shared};
 
 // Range, limit, number of devices, number of intervals. 17 for an answer of under four places; 14 to 16 as
@@ -43,7 +43,7 @@ pub fn share(image: &[u8], id: u64, answer: &mut [u64]) -> u32
         return made.refusal;
     }
     let pool = made.pool;
-    match pools::share(pool, id) {
+    match valid_pools::share(pool, id) {
         ShareAnswer::Share(points) => {
             put1(&mut *answer, points);
             0

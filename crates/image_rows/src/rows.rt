@@ -1,8 +1,8 @@
 // The rows of an image's pool, three numbers each.
 use opened::Opened;
-use six_steps::runs::LABELS;
-use six_steps::runs::ROOM;
-use six_steps::runs::blank;
+use packed_runs::LABELS;
+use packed_runs::ROOM;
+use packed_runs::blank;
 use slicing::SHORT_BUFFER;
 ghost use mathlib.Core.Path.{_≡_};
 ghost use mathlib.Core.List.{[], _∷_, _++_};

@@ -26,11 +26,11 @@ use Rattle.slicing_core.proofs.Rows.{length-deviceRows}
 use Rattle.pools.specs.Pools.{capacitiesOf, startsOf, ownersOf}
 use Rattle.pools.proofs.PaddedRows.{length-startsOf, length-ownersOf}
 use Rattle.pools.proofs.PoolLaws.{deviceRows-of, tableRows-of, length-tableRows, length-ids, length-capacitiesOf}
-use Rattle.images.specs.Format.{mark, version, head, deviceBytes, intervalBytes, imageOf, numberAt, rangeIn, limitIn, devicesIn, intervalsIn, column, idsIn, capacitiesIn, startsIn, ownersIn, stateIn, marked, Image}
-use Rattle.images.specs.RowBytes.{pairBytes}
-use Rattle.images.proofs.ByteNumbers.{Bytes, bytes-numberAt, numberAt-bytes}
-use Rattle.images.proofs.ImageSizes.{length-deviceBytes, length-imageOf}
-use Rattle.images.proofs.ImageRows.{deviceBytes-rows, intervalBytes-rows, deviceBytes-lists, intervalBytes-lists, pairBytes-columns, column-first, column-second, joined}
+use Rattle.image_numbers.specs.Format.{mark, version, head, deviceBytes, intervalBytes, imageOf, numberAt, rangeIn, limitIn, devicesIn, intervalsIn, column, idsIn, capacitiesIn, startsIn, ownersIn, stateIn, marked, Image}
+use Rattle.image_bytes.specs.RowBytes.{pairBytes}
+use Rattle.image_numbers.proofs.ByteNumbers.{Bytes, bytes-numberAt, numberAt-bytes}
+use Rattle.image_numbers.proofs.ImageSizes.{length-deviceBytes, length-imageOf}
+use Rattle.image_bytes.proofs.ImageRows.{deviceBytes-rows, intervalBytes-rows, deviceBytes-lists, intervalBytes-lists, pairBytes-columns, column-first, column-second, joined}
 
 -- ---- the rows of a state's lists
 

@@ -1,11 +1,6 @@
-pub mod ImageSizes
-pub mod ByteNumbers
-pub mod ImageRows
 pub mod ImageLaws
-pub mod ReadColumns
 pub mod PoolsRead
 pub mod ReadAnswers
-pub mod Fronts
-pub mod WrittenImages
+pub mod WriteAnswers
 pub mod RoundTrips
 pub mod OnImages

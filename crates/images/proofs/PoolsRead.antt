@@ -6,15 +6,15 @@ use mathlib.Core.Path.{_≡_, refl, sym, ap, _∙_, subst}
 use mathlib.Core.List.{List, [], _∷_, _++_}
 use Prim.Native.Nat.{ℕ, zero, suc, _+_, _*_, _-_, _≤_}
 use native.Mathlib.Omega.{arith}
-use lib.ListN.{length, replicate, length-append, length-replicate}
+use lib.ListN.{length, drop, replicate, length-append, length-replicate}
 use Rattle.pools.specs.Pools.{padded, stateOf, poolOf, ValidPool, Zeros, Cleared}
 use Rattle.pools.proofs.PoolLaws.{length-tableRows, zeros-padded, poolOf-parts}
 use Rattle.slicing.specs.Validity.{Valid}
 use Rattle.slicing_core.specs.Rows.{at, deviceRows, tableRows}
 use Rattle.slicing_core.proofs.Rows.{length-deviceRows, at-zeros}
-use Rattle.images.specs.Format.{headSize, rangeIn, limitIn, devicesIn, intervalsIn, idsIn, capacitiesIn, startsIn, ownersIn, column, stateIn}
-use Rattle.images.specs.RowBytes.{poolIn}
-use Rattle.images.proofs.ReadColumns.{length-column, from, column-from}
+use Rattle.image_numbers.specs.Format.{headSize, rangeIn, limitIn, devicesIn, intervalsIn, idsIn, capacitiesIn, startsIn, ownersIn, column, stateIn}
+use Rattle.image_bytes.specs.RowBytes.{poolIn}
+use Rattle.image_bytes.proofs.ReadColumns.{length-column, from, column-from, column-padded}
 
 -- ---- a pool by its parts
 
@@ -31,17 +31,19 @@ starts-column xs n q = column-from (6 * n) (rowsOf xs) 4 0 q ∙ column-from hea
 owners-column : (xs : List ℕ) (n q : ℕ) → column (restOf xs n) 2 4 q ≡ column xs 2 (headSize + 6 * n + 4) q
 owners-column xs n q = column-from (6 * n) (rowsOf xs) 2 4 q ∙ column-from headSize xs 2 (6 * n + 4) q ∙ ap (λ i. column xs 2 i q) (omega arith)
 
+-- the columns read into arrays that held zeros
 pub described-pool : (xs : List ℕ) (n q range limit : ℕ) (ids capacities starts owners : List ℕ) → n ≡ devicesIn xs → q ≡ intervalsIn xs
-    → range ≡ rangeIn xs → limit ≡ limitIn xs → ids ≡ padded 256 (column (rowsOf xs) 2 0 n) → capacities ≡ padded 256 (column (rowsOf xs) 4 2 n)
-    → starts ≡ padded 4096 (column (restOf xs n) 4 0 q) → owners ≡ padded 4096 (column (restOf xs n) 2 4 q)
+    → range ≡ rangeIn xs → limit ≡ limitIn xs → ids ≡ column (rowsOf xs) 2 0 n ++ drop n (replicate 256 0)
+    → capacities ≡ column (rowsOf xs) 4 2 n ++ drop n (replicate 256 0) → starts ≡ column (restOf xs n) 4 0 q ++ drop q (replicate 4096 0)
+    → owners ≡ column (restOf xs n) 2 4 q ++ drop q (replicate 4096 0)
     → record { range = range; limit = limit; devices = n; ids = ids; capacities = capacities; intervals = q; starts = starts; owners = owners } ≡ poolIn xs
 unfolding poolIn
 described-pool xs n q range limit ids capacities starts owners d i r l hi hc hs ho =
     rw (
-      hi,
-      hc,
-      hs,
-      ho,
+      column-padded 256 2 0 (rowsOf xs) ids n hi,
+      column-padded 256 4 2 (rowsOf xs) capacities n hc,
+      column-padded 4096 4 0 (restOf xs n) starts q hs,
+      column-padded 4096 2 4 (restOf xs n) owners q ho,
       column-from headSize xs 2 0 n,
       column-from headSize xs 4 2 n,
       starts-column xs n q,

@@ -14,9 +14,9 @@ use borrow.Author.Tests.{leb-true}
 use Rattle.pools.specs.Pools.{ValidPool}
 use Rattle.pools.specs.declared.Pool.{Pool}
 use Rattle.pools.specs.declared.PoolAnswer.{PoolAnswer}
-use Rattle.images.specs.Format.{version, headSize, versionIn, devicesIn, intervalsIn, marked, Sound}
+use Rattle.image_numbers.specs.Format.{version, headSize, versionIn, devicesIn, intervalsIn, marked, Sound}
 use Rattle.images.specs.Promises.{ReadAs, accepted, refusal}
-use Rattle.images.specs.RowBytes.{poolIn}
+use Rattle.image_bytes.specs.RowBytes.{poolIn}
 use Rattle.images.proofs.PoolsRead.{devices-few, intervals-few, poolIn-valid, valid-poolIn, poolOf-stateIn}
 
 clash : (b : Bool) → b ≡ true → b ≡ false → ⊥

@@ -22,11 +22,11 @@ use Rattle.pools.specs.Pools.{stateOf, poolOf, ValidPool}
 use Rattle.pools.specs.declared.Pool.{Pool}
 use Rattle.pools.specs.declared.PoolAnswer.{PoolAnswer}
 use Rattle.pools.proofs.PoolLaws.{stateOf-poolOf, validPool-poolOf}
-use Rattle.images.specs.Format.{imageOf, stateIn, Image}
+use Rattle.image_numbers.specs.Format.{imageOf, stateIn, Image}
 use Rattle.images.specs.Promises.{refusal, ReadAs, unmarked, versioned, faulty, accepted, WrittenAs}
 use Rattle.images.specs.declared.WriteAnswer.{WriteAnswer}
 use Rattle.images.specs.declared.WriteAnswer.the-variants.{Written, Refused}
-use Rattle.images.proofs.ByteNumbers.{Bytes}
+use Rattle.image_numbers.proofs.ByteNumbers.{Bytes}
 use Rattle.images.proofs.ImageLaws.{imageOf-stateIn, stateIn-imageOf, image-imageOf, imageOf-injective}
 
 pub record Accepted (xs : List ℕ) (r : PoolAnswer) : Type 0 where

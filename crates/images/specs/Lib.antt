@@ -1,4 +1,2 @@
-pub mod Format
-pub mod RowBytes
 pub mod Promises
 pub mod OnImages

@@ -6,7 +6,7 @@ use mathlib.Core.Bool.{true, false}
 use mathlib.Core.List.{List}
 use Prim.Native.Nat.{ℕ}
 use Rattle.slicing.specs.Changes.{State}
-use Rattle.images.specs.Format.{version, versionIn, stateIn, marked, Sound, Image}
+use Rattle.image_numbers.specs.Format.{version, versionIn, stateIn, marked, Sound, Image}
 
 -- 'Image read: 14: under 19 bytes, or another mark; 15: another version; 16: any other fault'
 pub data OnImage {A : Type 0} (xs : List ℕ) (refused : ℕ → A) (done : State → A) (r : A) : Type 0 where

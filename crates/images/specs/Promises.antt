@@ -17,7 +17,7 @@ use Rattle.pools.specs.declared.Pool.{Pool}
 use Rattle.pools.specs.declared.PoolAnswer.{PoolAnswer}
 use Rattle.slicing.specs.Changes.{State, fresh}
 use Rattle.slicing.specs.Replies.{Reply, replied, declined}
-use Rattle.images.specs.Format.{version, imageOf, versionIn, stateIn, marked, Sound, Image}
+use Rattle.image_numbers.specs.Format.{version, imageOf, versionIn, stateIn, marked, Sound, Image}
 use Rattle.images.specs.declared.reader.ReadAnswer.{ReadAnswer}
 use Rattle.images.specs.declared.WriteAnswer.{WriteAnswer}
 use Rattle.images.specs.declared.WriteAnswer.the-variants.{Written, Refused}

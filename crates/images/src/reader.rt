@@ -1,37 +1,37 @@
 // Reading an image.
-use crate::HEAD;
-use crate::MARK;
-use crate::ROW;
-use crate::VERSION;
-use crate::numbers::number1;
-use crate::numbers::number2;
-use crate::numbers::number8;
-use crate::rows::device_rows;
-use crate::rows::interval_rows;
+use image_bytes::rows::device_rows;
+use image_bytes::rows::interval_rows;
+use image_numbers::HEAD;
+use image_numbers::MARK;
+use image_numbers::ROW;
+use image_numbers::VERSION;
+use image_numbers::numbers::number1;
+use image_numbers::numbers::number2;
+use image_numbers::numbers::number8;
 use opened::Opened;
 use opened::making::without_devices;
+use packed_runs::ROOM;
+use packed_runs::blank;
 use pools::Pool;
 use pools::PoolAnswer;
 use pools::fresh;
-use pools::open_cleared;
-use six_steps::runs::ROOM;
-use six_steps::runs::blank;
 use slicing::FAULTY;
 use slicing::MAX_DEVICES;
 use slicing::MAX_INTERVALS;
 use slicing::OTHER_VERSION;
 use slicing::UNMARKED;
+use valid_pools::open_cleared;
 ghost use mathlib.Core.Path.{_≡_};
 ghost use Prim.Native.Nat.{_+_, _*_, _≤_};
 ghost use lib.ListN.{length};
-ghost use Rattle.six_steps.specs.Words.{room};
+ghost use Rattle.packed_runs.specs.Words.{room};
 ghost use Rattle.opened.specs.OpenPools as OpenPools;
 ghost use Rattle.opened.specs.OpenPools.{Open};
 ghost use Rattle.pools.specs.Pools.{stateOf};
-ghost use Rattle.images.specs.Format as Format;
-ghost use Rattle.images.specs.Format.{headSize, devicesIn, intervalsIn};
+ghost use Rattle.image_numbers.specs.Format as Format;
+ghost use Rattle.image_numbers.specs.Format.{headSize, devicesIn, intervalsIn};
 ghost use Rattle.images.specs.Promises.{ReadAs, refusal, answerOf};
-ghost use Rattle.images.specs.RowBytes.{poolIn};
+ghost use Rattle.image_bytes.specs.RowBytes.{poolIn};
 
 // Whether there is room for a head, and the mark.
 fn marked(image: &[u8]) -> bool
@@ -49,16 +49,16 @@ fn described(image: &[u8], n: usize, q: usize) -> Pool
     requires { ⌜ length (now image) ≡ headSize + 6 * n + 6 * q ⌝ }
     ensures { λ r. ⌜ r ≡ poolIn (now (image .entry)) ⌝ }
 {
+    let mut ids = [0u16; MAX_DEVICES];
+    let mut capacities = [0u32; MAX_DEVICES];
+    let mut starts = [0u32; MAX_INTERVALS];
+    let mut owners = [0u16; MAX_INTERVALS];
     let range = number8(image, 5);
     let limit = number2(image, 13) as u32;
     let rows = &image[HEAD..];
-    let devices = device_rows(rows, n);
+    device_rows(rows, n, &mut ids, &mut capacities);
     let end = ROW * n;
-    let intervals = interval_rows(&rows[end..], q);
-    let ids = devices.ids;
-    let capacities = devices.capacities;
-    let starts = intervals.starts;
-    let owners = intervals.owners;
+    interval_rows(&rows[end..], q, &mut starts, &mut owners);
     Pool {
         range: range,
         limit: limit,

@@ -1,4 +1,4 @@
--- The walk for copies: what a reader expects of the owners that it chooses.
+-- The probing for copies: what a reader expects of the owners that it chooses.
 --
 --   firsts o n           the different owners of the first n probes, in the order of the probes
 -- firsts: firsts-distinct, firsts-owner
@@ -72,7 +72,7 @@ firsts-owner o (suc n) d h = go (member (o n) (firsts o n)) h (firsts-owner o n 
         step true e = record { probe = n; early = omega arith; owner = sym (eqb-true d (o n) e) }
         step false e = later (ih (omega (arith, count-append d (firsts o n) (o n ∷ []), ap one e)))
 
--- ---- the walk
+-- ---- the probing
 
 -- the owners met stay at the front as more probes come
 take-firsts : (o : ℕ → ℕ) (k n : ℕ) → k ≤ length (firsts o n) → take k (firsts o (suc n)) ≡ take k (firsts o n)

@@ -1,11 +1,11 @@
--- Laws of the walk for copies: what the loops of `chosen` and `probe_owners` need.
+-- Laws of the probing for copies: what the loops of `chosen` and `probe_owners` need.
 --
---   Walking s o n R block k list found t     after t probes, fewer than k owners are chosen: they stand in the list, then zeros, and the
---                                            walk from there on is the whole walk
+--   Probing s o n R block k list found t     after t probes, fewer than k owners are chosen: they stand in the list, then zeros, and the
+--                                            probing from there on is the whole probing
 --
 -- member: member-here, member-next, member-end (an owner among those from a place on)
 -- chooseFrom: chooseFrom-again, chooseFrom-last, chooseFrom-more, chooseFrom-end (one probe, and none left)
--- Walking: walking-start, walking-size, walking-again, walking-more; walking-end, walking-last (the walk's answer)
+-- Probing: probing-start, probing-size, probing-again, probing-more; probing-end, probing-last (the answer)
 use mathlib.Core.Path.{_≡_, refl, sym, ap, _∙_}
 use mathlib.Core.Bool.{Bool, true, false}
 use mathlib.Core.List.{List, [], _∷_, _++_}
@@ -52,13 +52,13 @@ module _ (o : ℕ → ℕ) (k p t : ℕ) (cs : List ℕ) where
   pub chooseFrom-end : p ≤ t → chooseFrom o k (p - t) t cs ≡ record { owners = cs; probes = t }
   chooseFrom-end h = let e : p - t ≡ 0 = omega arith in rw e
 
--- ---- Walking
+-- ---- Probing
 
 module _ (s os : List ℕ) (n R block k : ℕ) where
   abbrev o : ℕ → ℕ
   o = ownerOf s os n R block
 
-  pub record Walking (list : List ℕ) (found t : ℕ) : Type 0 where
+  pub record Probing (list : List ℕ) (found t : ℕ) : Type 0 where
     pub owners : List ℕ
     pub written : list ≡ owners ++ replicate (8 - found) 0
     pub count : length owners ≡ found
@@ -67,32 +67,32 @@ module _ (s os : List ℕ) (n R block k : ℕ) where
     pub passed : t ≤ 256
     pub rest : chooseFrom o k (256 - t) t owners ≡ choose o k
 
-  pub walking-start : 1 ≤ k → k ≤ 8 → Walking (replicate 8 0) 0 0
+  pub probing-start : 1 ≤ k → k ≤ 8 → Probing (replicate 8 0) 0 0
   unfolding choose
-  walking-start h room = record { owners = []; written = refl; count = refl; fewer = h; room = room; passed = omega arith; rest = refl }
+  probing-start h room = record { owners = []; written = refl; count = refl; fewer = h; room = room; passed = omega arith; rest = refl }
 
-  walked : (list cs : List ℕ) (found t : ℕ) → choose o k ≡ record { owners = cs; probes = t } → list ≡ cs ++ replicate (8 - found) 0
+  answered : (list cs : List ℕ) (found t : ℕ) → choose o k ≡ record { owners = cs; probes = t } → list ≡ cs ++ replicate (8 - found) 0
       → length cs ≡ found → found ≤ k → ProbesAnswered s os n R block k (record { owners = list; found = found; probes = t })
-  walked list cs found t e written count most = record { owners = rw e written; found = rw e (sym count); probes = rw e; most = most }
+  answered list cs found t e written count most = record { owners = rw e written; found = rw e (sym count); probes = rw e; most = most }
 
-  module _ (list : List ℕ) (found t : ℕ) (w : Walking list found t) where
-    pub walking-size : length list ≡ 8
-    walking-size =
+  module _ (list : List ℕ) (found t : ℕ) (w : Probing list found t) where
+    pub probing-size : length list ≡ 8
+    probing-size =
         let zeros : List ℕ = replicate (8 - found) 0 in
         let long : length zeros ≡ 8 - found = length-replicate (8 - found) 0 in
         ap length (w .written) ∙ length-append (w .owners) zeros ∙ omega arith
 
-    pub walking-end : 256 ≤ t → ProbesAnswered s os n R block k (record { owners = list; found = found; probes = 256 })
-    walking-end h =
+    pub probing-end : 256 ≤ t → ProbesAnswered s os n R block k (record { owners = list; found = found; probes = 256 })
+    probing-end h =
         let e : t ≡ 256 = omega (arith, w .passed) in
-        walked _ _ _ _ (rw e at (sym (w .rest) ∙ chooseFrom-end o k 256 t (w .owners) h)) (w .written) (w .count) (omega arith)
+        answered _ _ _ _ (rw e at (sym (w .rest) ∙ chooseFrom-end o k 256 t (w .owners) h)) (w .written) (w .count) (omega arith)
 
     module _ (d : ℕ) (e : d ≡ o t) (h : t < 256) where
       seen : {b : Bool} → member d (take found list) ≡ b → member (o t) (w .owners) ≡ b
       seen m = rw (w .written, take-at (w .owners) (replicate (8 - found) 0) found (w .count), e) at m
 
-      pub walking-again : member d (take found list) ≡ true → Walking list found (t + 1)
-      walking-again m =
+      pub probing-again : member d (take found list) ≡ true → Probing list found (t + 1)
+      probing-again m =
           record {
             owners = w .owners;
             written = w .written;
@@ -116,8 +116,8 @@ module _ (s os : List ℕ) (n R block k : ℕ) where
       length-more = length-append (w .owners) (o t ∷ []) ∙ omega arith
 
       module _ (m : member d (take found list) ≡ false) where
-        pub walking-more : (found + 1 ≡ k → ⊥) → Walking (set list found d) (found + 1) (t + 1)
-        walking-more l =
+        pub probing-more : (found + 1 ≡ k → ⊥) → Probing (set list found d) (found + 1) (t + 1)
+        probing-more l =
             record {
               owners = more;
               written = stored;
@@ -128,6 +128,6 @@ module _ (s os : List ℕ) (n R block k : ℕ) where
               rest = sym (chooseFrom-more o k 256 t (w .owners) h (seen m) (omega (arith, l))) ∙ w .rest;
             }
 
-        pub walking-last : found + 1 ≡ k → ProbesAnswered s os n R block k (record { owners = set list found d; found = found + 1; probes = t + 1 })
-        walking-last l =
-            walked _ _ _ _ (sym (w .rest) ∙ chooseFrom-last o k 256 t (w .owners) h (seen m) (omega arith)) stored length-more (omega arith)
+        pub probing-last : found + 1 ≡ k → ProbesAnswered s os n R block k (record { owners = set list found d; found = found + 1; probes = t + 1 })
+        probing-last l =
+            answered _ _ _ _ (sym (w .rest) ∙ chooseFrom-last o k 256 t (w .owners) h (seen m) (omega arith)) stored length-more (omega arith)

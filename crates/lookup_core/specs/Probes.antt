@@ -1,9 +1,9 @@
--- Points of probes (document 01's tries) and the walk for copies. Renders document 01, 'Points and copies'.
+-- Points of probes (document 01's tries) and the probing for copies. Renders document 01, 'Points and copies'.
 --
 --   pointOf block t R     the point of probe t
 --   member d cs           whether d is among cs
 --   Chosen                the owners chosen, in order, and the probes made
---   chooseFrom ..         the walk from a probe on
+--   chooseFrom ..         the probing from a probe on
 --   choose o k            the walk for k copies; o t owns the point of probe t
 use mathlib.Core.Bool.{Bool, false, cond, _||_}
 use mathlib.Core.List.{List, [], _∷_, _++_}

@@ -1,7 +1,7 @@
--- What the walk for copies promises on lent arrays.
+-- What the probing for copies promises on lent arrays.
 --
 --   ownerOf s o n R block t     the owner of the point of probe t
---   ProbesAnswered ..                   the walk is the rules', over these owners
+--   ProbesAnswered ..                   the probing is the rules', over these owners
 use mathlib.Core.Path.{_≡_}
 use mathlib.Core.List.{List, _++_}
 use Prim.Native.Nat.{ℕ, _-_, _≤_}

@@ -12,7 +12,7 @@ use Rattle.slicing.specs.Limits.{maxRange, maxLimit, outside}
 use Rattle.slicing.specs.Validity.{Valid}
 use Rattle.slicing.proofs.Changes.{outside-false, or-false}
 use Rattle.slicing.proofs.Claims.{valid-fresh}
-use Rattle.six_steps.specs.Words.{room}
+use Rattle.packed_runs.specs.Words.{room}
 use Rattle.opened.specs.OpenPools.{Open}
 
 module _ (R M : ℕ) (f : outside maxRange R || outside maxLimit M ≡ false) where

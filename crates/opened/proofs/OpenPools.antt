@@ -19,7 +19,7 @@ use Rattle.slicing_core.specs.Rows.{at}
 use Rattle.slicing_core.specs.Stages.{Below, Ascending}
 use Rattle.slicing_core.proofs.DeviceRows.{ascending-rising, below-rising, capacities-rising}
 use Rattle.slicing_core.proofs.Rows.{length-deviceRows}
-use Rattle.six_steps.specs.Words.{runs}
+use Rattle.packed_runs.specs.Words.{runs}
 use Rattle.opened.specs.declared.Opened.{Opened}
 use Rattle.opened.specs.OpenPools.{devicesIn, Open}
 use Rattle.opened.proofs.RowNames.{length-relabel, length-runs, named-row, owned-names}

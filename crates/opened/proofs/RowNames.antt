@@ -18,7 +18,7 @@ use borrow.Author.Tests.{ltb-true, ltb-false, lt-ltb, ne-eqb}
 use Rattle.slicing.specs.Runs.{Run, _of_, owned, relabel}
 use Rattle.slicing_core.specs.Rows.{at, rows}
 use Rattle.slicing_core.specs.Stages.{Below, Ascending}
-use Rattle.six_steps.specs.Words.{runs, byRow, Labelled}
+use Rattle.packed_runs.specs.Words.{runs, byRow, Labelled}
 use Rattle.six_steps.proofs.Renaming.{owned-rename}
 
 -- ---- runs renamed

@@ -13,7 +13,7 @@ use Rattle.slicing.specs.Devices.{Device}
 use Rattle.slicing.specs.Runs.{Run, owned, relabel}
 use Rattle.slicing.specs.Validity.{Valid}
 use Rattle.slicing_core.specs.Rows.{at, deviceRows}
-use Rattle.six_steps.specs.Words.{runs, room, Labelled}
+use Rattle.packed_runs.specs.Words.{runs, room, Labelled}
 use Rattle.opened.specs.declared.Opened.{Opened}
 
 abbrev pub devicesIn : Opened → List Device

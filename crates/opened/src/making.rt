@@ -8,7 +8,7 @@ ghost use Prim.Native.Nat.{ℕ};
 ghost use lib.ListN.{length};
 ghost use Rattle.slicing.specs.Changes as Changes;
 ghost use Rattle.slicing.specs.Limits as Limits;
-ghost use Rattle.six_steps.specs.Words.{room};
+ghost use Rattle.packed_runs.specs.Words.{room};
 ghost use Rattle.opened.specs.OpenPools.{stateIn, Open};
 
 // A pool of so many points and at most so many intervals, without devices. Any array is its table.

@@ -18,7 +18,7 @@ use Rattle.slicing.specs.SixSteps.{movesFrom}
 use Rattle.slicing.specs.Validity.{Valid}
 use Rattle.slicing.proofs.Claims.{claim-valid}
 use Rattle.slicing_core.specs.Rows.{at}
-use Rattle.six_steps.specs.Words.{turnsOf, room}
+use Rattle.packed_runs.specs.Words.{turnsOf, room}
 use Rattle.six_steps.proofs.Renaming.{moveAs}
 use Rattle.opened.specs.OpenPools.{stateIn}
 use Rattle.opened.specs.declared.Opened.{Opened}

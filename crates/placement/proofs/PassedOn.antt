@@ -39,7 +39,7 @@ use denote.Triple.Spec.{tripleOf}
 use denote.Triple.Walked.{says}
 use Rattle.by_hand.proofs.Locals.{free, held, holds, named, at, turn, leave1, leaves}
 use Rattle.slicing.specs.Changes.{Change}
-use Rattle.six_steps.specs.Words.{room as most}
+use Rattle.packed_runs.specs.Words.{room as most}
 use Rattle.placement.specs.declared.ChangeAnswer.{ChangeAnswer}
 use Rattle.pools.specs.declared.Pool.{Pool}
 use Rattle.placement.proofs.ChangeAnswer as N

@@ -14,7 +14,7 @@ use Rattle.pools.specs.declared.Pool.{Pool}
 use Rattle.slicing.specs.Changes.{Change, Outcome, refused, change}
 use Rattle.slicing.specs.Claims.{written}
 use Rattle.slicing.specs.SixSteps as Rules
-use Rattle.six_steps.specs.Words.{room}
+use Rattle.packed_runs.specs.Words.{room}
 use Rattle.placement.specs.declared.ChangeAnswer.{ChangeAnswer}
 use Rattle.placement.specs.declared.Draft.{Draft}
 use Rattle.placement.specs.declared.Move.{Move}

@@ -1,17 +1,17 @@
 // The offered changes: add, remove and resize, with the moves written into a list of structs. A pool is
 // opened, which decides whether it is valid; the change is planned with no list; one writer copies the
 // moves into the lent list.
-use plans::Call;
-use plans::calls::plan;
+use calls::Call;
+use calls::plan;
+use packed_runs::LABELS;
+use packed_runs::ROOM;
+use packed_runs::ROWS;
+use packed_runs::blank;
 use pools::Pool;
 use pools::close;
-use pools::open;
-use six_steps::runs::LABELS;
-use six_steps::runs::ROOM;
-use six_steps::runs::ROWS;
-use six_steps::runs::blank;
 use slicing::MAX_DEVICES;
 use slicing::OUTSIDE;
+use valid_pools::open;
 ghost use mathlib.Core.Path.{_≡_};
 ghost use mathlib.Core.List.{_++_, map};
 ghost use Prim.Native.Nat.{_≤_, _<_, _^_};
@@ -21,9 +21,9 @@ ghost use Rattle.slicing.specs.Changes as Changes;
 ghost use Rattle.slicing.specs.Runs.{total};
 ghost use Rattle.slicing.specs.SixSteps.{movesFrom};
 ghost use Rattle.slicing_core.specs.Rows.{at};
-ghost use Rattle.six_steps.specs.Words.{runs, turnsOf, room};
+ghost use Rattle.packed_runs.specs.Words.{runs, turnsOf, room};
 ghost use Rattle.six_steps.proofs.Renaming.{moveAs};
-ghost use Rattle.plans.specs.Plans.{changeOf};
+ghost use Rattle.calls.specs.Calls.{changeOf};
 ghost use Rattle.placement.specs.Promises.{rowOf, Drawn, Changed};
 
 // A move: `length` points from `start` on go from one device to another.

@@ -20,7 +20,7 @@ use Rattle.slicing.specs.Validity.{Valid}
 use Rattle.slicing.proofs.Changes.{valid-change}
 use Rattle.slicing.proofs.Claims.{valid-fresh}
 use Rattle.slicing_core.specs.Rows.{at}
-use Rattle.six_steps.specs.Words.{room}
+use Rattle.packed_runs.specs.Words.{room}
 use Rattle.opened.specs.OpenPools.{stateIn, Open}
 use Rattle.plans.specs.Plans.{Planned}
 use Rattle.opened.specs.declared.Opened.{Opened}

@@ -17,8 +17,8 @@ use borrow.Author.Tests.{lt-ltb, le-ltb}
 use Rattle.slicing.specs.Runs.{relabel}
 use Rattle.slicing.proofs.Runs.{relabel-append}
 use Rattle.slicing_core.specs.Rows.{at}
-use Rattle.six_steps.specs.Words.{runs, room}
-use Rattle.six_steps.proofs.Words.{runs-snoc, runs-same}
+use Rattle.packed_runs.specs.Words.{runs, room}
+use Rattle.packed_runs.proofs.Words.{runs-snoc, runs-same}
 use Rattle.plans.specs.Labels.{raised, lowered, Named}
 
 -- ---- one run

@@ -3,7 +3,3 @@ pub mod FirstDevices
 pub mod Merging
 pub mod NextTables
 pub mod Planning
-pub mod RaisedRows
-pub mod NextDevices
-pub mod MergedRows
-pub mod CallChecks

@@ -25,11 +25,11 @@ use Rattle.slicing_core.specs.Rows.{at}
 use Rattle.slicing_core.specs.Stages.{Below}
 use Rattle.slicing_core.proofs.OwnerRows.{owned-le}
 use Rattle.slicing_core.proofs.Rows.{length-deviceRows}
+use Rattle.packed_runs.specs.Words.{runs, byRow, turnsOf, present}
+use Rattle.packed_runs.proofs.Words.{owned-byRow, owned-outside}
 use Rattle.six_steps.specs.Steps.{Stepped}
-use Rattle.six_steps.specs.Words.{runs, byRow, turnsOf, present}
 use Rattle.six_steps.specs.declared.steps.Done.{Done}
 use Rattle.six_steps.proofs.EmptyPieces.{total-present}
-use Rattle.six_steps.proofs.Words.{owned-byRow, owned-outside}
 use Rattle.six_steps.proofs.Renaming.{moveAs, newTable-rename, moves-rename}
 use Rattle.opened.specs.OpenPools.{devicesIn}
 use Rattle.plans.specs.Plans.{Merged, stateBy}

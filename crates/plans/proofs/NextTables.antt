@@ -17,11 +17,11 @@ use Rattle.slicing.proofs.Runs.{relabel-relabel, relabel-same, coalesced-table}
 use Rattle.slicing.proofs.SixSteps.{owned-newTable}
 use Rattle.slicing_core.specs.Rows.{at}
 use Rattle.slicing_core.proofs.DeviceRows.{ascending-rising, below-rising}
+use Rattle.packed_runs.specs.Words.{runs, Labelled}
+use Rattle.packed_runs.proofs.Words.{owned-byRow}
 use Rattle.six_steps.specs.Steps.{Stepped}
-use Rattle.six_steps.specs.Words.{runs, Labelled}
 use Rattle.six_steps.specs.declared.steps.Done.{Done}
 use Rattle.six_steps.proofs.Labels.{label-owned}
-use Rattle.six_steps.proofs.Words.{owned-byRow}
 use Rattle.plans.specs.Labels.{lowered}
 use Rattle.opened.specs.OpenPools.{devicesIn}
 use Rattle.plans.specs.Plans.{Merged, stateBy}

@@ -21,8 +21,8 @@ use Rattle.slicing.specs.Validity.{Valid}
 use Rattle.slicing.proofs.Changes.{valid-settled}
 use Rattle.slicing_core.specs.Rows.{at}
 use Rattle.slicing_core.proofs.Rows.{length-deviceRows}
+use Rattle.packed_runs.specs.Words.{room, runs, turnsOf}
 use Rattle.six_steps.specs.Steps.{Stepped}
-use Rattle.six_steps.specs.Words.{room, runs, turnsOf}
 use Rattle.six_steps.specs.declared.steps.Done.{Done}
 use Rattle.six_steps.proofs.Renaming.{moveAs}
 use Rattle.plans.specs.Labels.{lowered}

@@ -7,7 +7,7 @@ use mathlib.Core.Path.{_≡_}
 use mathlib.Core.List.{List, map}
 use Prim.Native.Nat.{ℕ, _^_, _≤_, _<_}
 use lib.ListN.{length}
-use Rattle.slicing.specs.Changes.{State, Outcome, Change, add, remove, resize}
+use Rattle.slicing.specs.Changes.{State, Outcome}
 use Rattle.slicing.specs.Claims.{written}
 use Rattle.slicing.specs.Devices.{Rising}
 use Rattle.slicing.specs.Runs.{total, owned, relabel}
@@ -16,12 +16,10 @@ use Rattle.slicing.specs.SixSteps.{Move, movesFrom}
 use Rattle.slicing.specs.Validity.{Valid}
 use Rattle.slicing_core.specs.Rows.{at, rows}
 use Rattle.slicing_core.specs.Stages.{Below, Ascending}
-use Rattle.six_steps.specs.Words.{runs, turnsOf, byRow, present, room, Labelled}
+use Rattle.packed_runs.specs.Words.{runs, turnsOf, byRow, present, room, Labelled}
 use Rattle.six_steps.proofs.Renaming.{moveAs}
 use Rattle.plans.specs.Labels.{lowered}
 use Rattle.opened.specs.OpenPools.{devicesIn, stateWith, stateIn, Open}
-use Rattle.plans.specs.declared.Call.{Call}
-use Rattle.plans.specs.declared.Call.the-variants.{Add, Remove, Resize}
 use Rattle.opened.specs.declared.Opened.{Opened}
 use Rattle.plans.specs.declared.Plan.{Plan}
 use Rattle.plans.specs.declared.Rows.{Rows}
@@ -69,9 +67,3 @@ pub record Merged (o e : Opened) (rs : Rows) (work : List ℕ) : Type 0 where
   pub idsSize : length (e .ids) ≡ 256
   pub capacitiesSize : length (e .capacities) ≡ 256
   pub sharesSize : length (e .has) ≡ 256
-
--- the rules' change that a call asks for
-abbrev pub changeOf : Call → Change
-changeOf (Add d c) = add d c
-changeOf (Remove d) = remove d
-changeOf (Resize d c) = resize d c

@@ -1,8 +1,8 @@
 // The first device of a pool.
 use crate::Plan;
 use opened::Opened;
-use six_steps::runs::LABELS;
-use six_steps::runs::ROOM;
+use packed_runs::LABELS;
+use packed_runs::ROOM;
 ghost use mathlib.Core.Path.{_≡_};
 ghost use mathlib.Core.List.{List, [], _∷_};
 ghost use Prim.Native.Nat.{ℕ, _≤_};
@@ -10,7 +10,7 @@ ghost use lib.ListN.{length};
 ghost use Rattle.slicing.specs.Changes as Changes;
 ghost use Rattle.slicing.specs.Devices as Devices;
 ghost use Rattle.slicing.specs.Runs.{_of_};
-ghost use Rattle.six_steps.specs.Words.{room};
+ghost use Rattle.packed_runs.specs.Words.{room};
 ghost use Rattle.plans.specs.Plans.{Planned};
 
 // The only device of a pool gets the whole range, and nothing moves.

@@ -1,11 +1,11 @@
 // The rows that a table names, as rows come and go.
-use six_steps::runs::LABELS;
-use six_steps::runs::ROOM;
+use packed_runs::LABELS;
+use packed_runs::ROOM;
 ghost use mathlib.Core.Path.{_≡_};
 ghost use Prim.Native.Nat.{_%_, _≤_, _<_};
 ghost use lib.ListN.{length};
 ghost use Rattle.slicing.specs.Runs.{relabel};
-ghost use Rattle.six_steps.specs.Words.{runs, room, Labelled};
+ghost use Rattle.packed_runs.specs.Words.{runs, room, Labelled};
 ghost use Rattle.plans.specs.Labels.{raised, lowered, Named};
 
 // A run of a table in which a row comes in at `row`. That the run is below 2^64, so that its sum fits, is

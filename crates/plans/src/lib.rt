@@ -1,22 +1,11 @@
-// A change of an opened pool worked out with no list: one plan, of which a writer of moves, a pool and a
-// history each take what they need. An opened pool is valid; nothing here decides that again.
-pub mod calls;
-mod first;
+// What a plan of a change of an opened pool is, worked out with no list: one plan, of which a writer of moves, a
+// pool and a history each take what they need. An opened pool is valid; nothing here decides that again.
+pub mod first;
 pub mod labels;
-mod settling;
+pub mod settling;
 
 use opened::Opened;
 use slicing::MAX_DEVICES;
-
-// The row of none: where no row comes in, or none goes.
-const NO_ROW: usize = 256;
-
-// A call for a change, with its arguments.
-pub enum Call {
-    Add(u64, u64),
-    Remove(u64),
-    Resize(u64, u64),
-}
 
 // A change worked out: the refusal number or 0, the moved points, the number of moves, how many turns there
 // are, the ids by which their rows are named, and the pool afterwards.

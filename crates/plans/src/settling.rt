@@ -3,14 +3,14 @@ use crate::Plan;
 use crate::Rows;
 use crate::labels::lower;
 use opened::Opened;
-use six_steps::runs::ROOM;
+use packed_runs::ROOM;
 use six_steps::steps::steps;
 use slicing::OVER_LIMIT;
 use slicing::SHORT_LIST;
 ghost use mathlib.Core.Path.{_≡_};
 ghost use lib.ListN.{length};
 ghost use Rattle.slicing.specs.Changes as Changes;
-ghost use Rattle.six_steps.specs.Words.{room};
+ghost use Rattle.packed_runs.specs.Words.{room};
 ghost use Rattle.opened.specs.OpenPools.{devicesIn};
 ghost use Rattle.plans.specs.Plans.{Merged, Planned, stateBy};
 

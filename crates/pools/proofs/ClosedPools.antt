@@ -18,8 +18,8 @@ use Rattle.slicing.specs.Runs.{Run, _of_, total, relabel}
 use Rattle.slicing.proofs.Runs.{total-append, relabel-append}
 use Rattle.slicing_core.specs.Rows.{at, deviceRows}
 use Rattle.slicing_core.proofs.Rows.{length-deviceRows}
-use Rattle.six_steps.specs.Words.{runs}
-use Rattle.six_steps.proofs.Words.{runs-snoc}
+use Rattle.packed_runs.specs.Words.{runs}
+use Rattle.packed_runs.proofs.Words.{runs-snoc}
 use Rattle.opened.specs.declared.Opened.{Opened}
 use Rattle.opened.specs.OpenPools.{stateIn, Open}
 use Rattle.opened.proofs.OpenPools.{open-few, open-length}

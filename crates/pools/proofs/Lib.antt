@@ -1,12 +1,5 @@
-pub mod WidenedColumns
-pub mod Deciding
 pub mod PaddedRows
 pub mod PoolLaws
 pub mod ValidParts
-pub mod HeldRows
 pub mod FreshPools
-pub mod ShareAnswers
 pub mod ClosedPools
-pub mod RowSteps
-pub mod HeldRuns
-pub mod CheckedPools

@@ -1,3 +1,2 @@
 pub mod Pools
 pub mod Promises
-pub mod Tables

@@ -18,7 +18,6 @@ use Rattle.slicing.specs.Runs.{Run, _of_, total, owned, Coalesced}
 use Rattle.slicing.specs.ShareRule.{shareOf}
 use Rattle.slicing.specs.Validity.{Valid}
 use Rattle.slicing_core.specs.Rows.{at, deviceRows, tableRows}
-use Rattle.slicing_core.specs.Stages.{Below}
 use Rattle.pools.specs.declared.Pool.{Pool}
 
 abbrev pub padded : ℕ → List ℕ → List ℕ
@@ -91,9 +90,3 @@ pub record Covered (R : ℕ) (ids capacities : List ℕ) (n : ℕ) (starts owner
   pub coalesced : Coalesced eqb (tableRows starts owners R 0 q)
   pub covers : total (tableRows starts owners R 0 q) ≡ R
   pub held : (i : ℕ) → i < n → owned (at ids i) (tableRows starts owners R 0 q) ≡ shareOf R (deviceRows ids capacities 0 n) (at ids i)
-
--- r has the n numbers of xs, each below k
-pub record Widened (xs : List ℕ) (k n : ℕ) (r : List ℕ) : Type 0 where
-  pub same : r ≡ xs
-  pub size : length xs ≡ n
-  pub below : Below k xs n

@@ -1,8 +1,8 @@
 // An opened pool closed: its arrays filled from the rows and the runs, unused places 0.
 use crate::Pool;
 use opened::Opened;
-use six_steps::runs::LABELS;
-use six_steps::runs::ROOM;
+use packed_runs::LABELS;
+use packed_runs::ROOM;
 use slicing::MAX_DEVICES;
 use slicing::MAX_INTERVALS;
 ghost use mathlib.Core.Path.{_≡_};
@@ -13,7 +13,7 @@ ghost use Rattle.slicing_core.specs.Rows.{at};
 ghost use Rattle.slicing_core.specs.Stages.{Below};
 ghost use Rattle.pools.specs.Pools.{padded, startsOf, poolOf};
 ghost use Rattle.pools.specs.Pools.{ownersOf as ownersIn};
-ghost use Rattle.six_steps.specs.Words.{runs, Labelled};
+ghost use Rattle.packed_runs.specs.Words.{runs, Labelled};
 ghost use Rattle.opened.specs.OpenPools.{stateIn, Open};
 
 // A pool's columns of devices.

@@ -1,23 +1,12 @@
-// The struct Pool. Offered: a fresh pool, and the share of a device. Internal: a pool opened, which decides
-// whether it is valid, and closed. A pool is decided valid once, where it comes in; inside, validity is a
-// fact that is carried.
+// The struct Pool. Offered: a fresh pool. Internal: an opened pool closed. Knows nothing of text.
 use slicing::MAX_DEVICES;
 use slicing::MAX_INTERVALS;
 
-mod checking;
 mod closing;
 mod making;
-mod opening;
-mod sharing;
-mod tables;
 
 pub use closing::close;
 pub use making::fresh;
-pub use opening::Checked;
-pub use opening::open;
-pub use opening::open_cleared;
-pub use opening::valid;
-pub use sharing::share;
 
 // A pool by value. Places from `devices` on, and from `intervals` on, are 0.
 pub struct Pool {
@@ -35,10 +24,4 @@ pub struct Pool {
 pub struct PoolAnswer {
     pub refusal: u32,
     pub pool: Pool,
-}
-
-// The answer of a call for a share.
-pub enum ShareAnswer {
-    Share(u64),
-    Refused(u32),
 }

@@ -1,4 +1,4 @@
-// The share rule in code: what each device of a pool is to have. Internal: `opened` and `pools` stand on it.
+// The share rule in code: what each device of a pool is to have. Internal: `opened` and `valid_pools` stand on it.
 // One module a rule, each promising its own rule; `shares` is the rule in force.
 mod largest_remainder;
 

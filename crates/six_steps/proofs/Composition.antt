@@ -24,10 +24,10 @@ use Rattle.slicing.proofs.Moves.{same-turn, self-turn, points-moves}
 use Rattle.slicing.proofs.SixSteps.{Balanced, total-needs, expand-old, total-turns, owned-new, changing-turns}
 use Rattle.slicing.proofs.Walk.{holder, takens, expand-walk}
 use Rattle.slicing_core.specs.Rows.{at}
-use Rattle.six_steps.specs.Words.{runs, byRow, piecesOf, pieceOf, turnOf, turnsOf, present, Labelled}
+use Rattle.packed_runs.specs.Words.{runs, byRow, piecesOf, pieceOf, turnOf, turnsOf, present, Labelled}
+use Rattle.packed_runs.proofs.Words.{owned-outside}
 use Rattle.six_steps.proofs.EmptyPieces.{total-present, takens-present, fill-present}
 use Rattle.six_steps.proofs.Labels.{labels-below}
-use Rattle.six_steps.proofs.Words.{owned-outside}
 
 -- ---- the walk
 

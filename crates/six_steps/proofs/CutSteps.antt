@@ -19,10 +19,10 @@ use Rattle.slicing_core.specs.Rows.{at}
 use Rattle.slicing_core.specs.Stages.{side, CutTo}
 use Rattle.slicing_core.specs.declared.cuts.Cut.{Cut}
 use Rattle.slicing_core.proofs.Cutting.{cutTo-whole, cutTo-pieces, walk-cut}
-use Rattle.six_steps.specs.Words.{room, runs, pieceOf, piecesOf, present, Labelled}
-use Rattle.six_steps.specs.Stages.{Put}
-use Rattle.six_steps.proofs.Words.{runs-step, runs-end, at-total}
-use Rattle.six_steps.proofs.Pushing.{put-marks}
+use Rattle.packed_runs.specs.Words.{room, runs, pieceOf, piecesOf, present, Labelled}
+use Rattle.packed_runs.specs.Stages.{Put}
+use Rattle.packed_runs.proofs.Words.{runs-step, runs-end, at-total}
+use Rattle.packed_runs.proofs.Pushing.{put-marks}
 
 mark-kept : (d : ℕ) → d < 256 → pieceOf d ≡ kept d
 mark-kept d h = rw (lt-ltb d 256 h)

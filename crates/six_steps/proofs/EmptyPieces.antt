@@ -14,7 +14,7 @@ use Rattle.slicing.proofs.Runs.{expand-coalesce, coalesced-coalesce, coalesce-u
 use Rattle.slicing.proofs.Moves.{same-turn, self-turn}
 use Rattle.slicing.proofs.Walk.{takens}
 use Rattle.slicing_core.proofs.Points.{given, expand-fill}
-use Rattle.six_steps.specs.Words.{present}
+use Rattle.packed_runs.specs.Words.{present}
 
 pub total-present : {A : Type 0} (ps : List (Run A)) → total (present ps) ≡ total ps
 total-present [] = refl

@@ -15,9 +15,9 @@ use Rattle.slicing.specs.Runs.{Run, total, expand, relabel, coalesce, Coalesced
 use Rattle.slicing.specs.SixSteps.{new}
 use Rattle.slicing.proofs.Runs.{length-expand, total-relabel, coalesce-unique}
 use Rattle.slicing_core.specs.Rows.{at}
-use Rattle.six_steps.specs.Words.{room, runs, turnsOf}
-use Rattle.six_steps.specs.Stages.{Held, Pushed}
-use Rattle.six_steps.proofs.Words.{runs-step, runs-end}
+use Rattle.packed_runs.specs.Words.{room, runs, turnsOf}
+use Rattle.packed_runs.specs.Stages.{Held, Pushed}
+use Rattle.packed_runs.proofs.Words.{runs-step, runs-end}
 
 -- the new owners of the turns from i on
 abbrev ownersLeft : List ℕ → ℕ → ℕ → List (Run ℕ)

@@ -10,7 +10,7 @@ use lib.Dec.{eqb, ltb}
 use borrow.Author.Tests.{eqb-true, eqb-false, eq-eqb, ltb-true, ltb-false}
 use Rattle.slicing.specs.Runs.{one, owned, relabel, Coalesced}
 use Rattle.slicing_core.specs.Rows.{at}
-use Rattle.six_steps.specs.Words.{runs}
+use Rattle.packed_runs.specs.Words.{runs}
 
 -- m runs of xs from place i, none of which is empty: under f their labels are owners, as under g they are coalesced
 module _ {A : Type 0} (eq : A → A → Bool) (g : ℕ → A) (f : ℕ → ℕ) (xs : List ℕ) where

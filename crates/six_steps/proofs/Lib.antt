@@ -1,8 +1,6 @@
-pub mod Words
-pub mod Pushing
 pub mod CutSteps
-pub mod FillSteps
 pub mod JoinSteps
+pub mod PassedTurns
 pub mod CountSteps
 pub mod QuotaSteps
 pub mod EmptyPieces

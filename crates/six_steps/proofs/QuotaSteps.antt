@@ -14,8 +14,8 @@ use borrow.Author.Count.{below-more}
 use Rattle.slicing.specs.Runs.{Run, owned}
 use Rattle.slicing.specs.SixSteps.{release as releaseOf, needs, reductions}
 use Rattle.slicing_core.specs.Rows.{at}
-use Rattle.six_steps.specs.Words.{runs, byRow, Labelled}
-use Rattle.six_steps.proofs.Words.{word-size, word-label, byRow-step, byRow-end, owned-byRow}
+use Rattle.packed_runs.specs.Words.{runs, byRow, Labelled}
+use Rattle.packed_runs.proofs.Words.{word-size, word-label, byRow-step, byRow-end, owned-byRow}
 
 -- a queue that has the needs of the rows
 needs-rows : (queue due : List ℕ) (has : List (Run ℕ)) (i n : ℕ) → i + n ≤ 65536

@@ -13,7 +13,7 @@ use borrow.Author.Tests.{eqb-true, eqb-false, eq-eqb, ne-eqb}
 use Rattle.slicing.specs.Runs.{Run, _of_, owned, expand, takePoints, dropPoints, relabel, push, coalesce}
 use Rattle.slicing.specs.SixSteps.{release, needs, Side, end, cut, Piece, kept, taken, less, walk, Turn, _⟶_, new, sameTurn, fill, turns, newTable, Move, move, movesFrom, moves}
 use Rattle.slicing.proofs.Runs.{relabel-append, relabel-relabel}
-use Rattle.six_steps.specs.Words.{present}
+use Rattle.packed_runs.specs.Words.{present}
 use Rattle.six_steps.proofs.Composition.{newTable-coalesce}
 use Rattle.six_steps.proofs.EmptyPieces.{owned-present, needs-present, fill-points}
 

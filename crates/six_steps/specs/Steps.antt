@@ -9,7 +9,7 @@ use Rattle.slicing.specs.Runs.{Run, total, coalesce}
 use Rattle.slicing.specs.SixSteps.{sameTurn, turns, newTable, moves}
 use Rattle.slicing.specs.SixSteps.{points as pointsOf}
 use Rattle.slicing_core.specs.Rows.{at}
-use Rattle.six_steps.specs.Words.{room, runs, turnsOf, Labelled}
+use Rattle.packed_runs.specs.Words.{room, runs, turnsOf, Labelled}
 use Rattle.six_steps.specs.declared.steps.Done.{Done}
 
 pub record Stepped (table has due : List (Run ℕ)) (n : ℕ) (work next : List ℕ) (r : Done) : Type 0 where

@@ -1,8 +1,8 @@
 // Steps 2 to 4: the old table cut into pieces, kept or taken.
-use crate::runs::LABELS;
-use crate::runs::ROOM;
-use crate::runs::TAKEN;
-use crate::runs::put;
+use packed_runs::LABELS;
+use packed_runs::ROOM;
+use packed_runs::TAKEN;
+use packed_runs::put;
 use slicing::MAX_DEVICES;
 use slicing_core::cuts::cut_interval;
 ghost use mathlib.Core.Path.{_≡_};
@@ -12,7 +12,7 @@ ghost use lib.ListN.{length};
 ghost use Rattle.slicing.specs.Runs.{total};
 ghost use Rattle.slicing.specs.SixSteps.{end, walk};
 ghost use Rattle.slicing_core.specs.Rows.{at};
-ghost use Rattle.six_steps.specs.Words.{runs, piecesOf, present, room, Labelled};
+ghost use Rattle.packed_runs.specs.Words.{runs, piecesOf, present, room, Labelled};
 
 // The pieces of the q runs of the table that are not empty. `release` has what each owner must release
 // and is used up.

@@ -1,15 +1,15 @@
 // Step 6: the joined new table; and the number of moves.
-use crate::runs::LABELS;
-use crate::runs::ROOM;
-use crate::runs::ROWS;
-use crate::runs::push;
+use packed_runs::LABELS;
+use packed_runs::ROOM;
+use packed_runs::ROWS;
+use packed_runs::push;
 ghost use mathlib.Core.Path.{_≡_};
 ghost use Prim.Native.Nat.{_%_, _≤_, _<_, _^_};
 ghost use lib.Dec.{eqb};
 ghost use lib.ListN.{length};
 ghost use Rattle.slicing.specs.Runs.{total, relabel, coalesce};
 ghost use Rattle.slicing.specs.SixSteps.{new, movesFrom};
-ghost use Rattle.six_steps.specs.Words.{runs, turnsOf, room};
+ghost use Rattle.packed_runs.specs.Words.{runs, turnsOf, room};
 
 // The new owners of t turns. They can be more than a table may have.
 pub fn new_table(turns: &[u64; ROOM], t: usize, table: &mut [u64; ROOM]) -> usize

@@ -1,10 +1,10 @@
 // All six steps, one stage after the other.
 use crate::cutting::cut;
-use crate::filling::fill;
 use crate::joining::count_moves;
 use crate::joining::new_table;
 use crate::quotas::quotas;
-use crate::runs::ROOM;
+use filling::fill;
+use packed_runs::ROOM;
 use slicing::MAX_DEVICES;
 ghost use mathlib.Core.Path.{_≡_};
 ghost use Prim.Native.Nat.{_≤_, _<_, _^_};
@@ -12,7 +12,7 @@ ghost use lib.ListN.{length};
 ghost use Rattle.slicing.specs.Runs.{total};
 ghost use Rattle.slicing.proofs.SixSteps.{Balanced};
 ghost use Rattle.slicing_core.specs.Stages.{Below};
-ghost use Rattle.six_steps.specs.Words.{runs, byRow, room, Labelled};
+ghost use Rattle.packed_runs.specs.Words.{runs, byRow, room, Labelled};
 ghost use Rattle.six_steps.specs.Steps.{Stepped};
 
 // What the steps leave: how many turns and intervals there are, the moved points and the number of moves.

@@ -125,17 +125,17 @@ deviceRows-up d c d' c' i zero f g = refl
 deviceRows-up d c d' c' i (suc m) f g =
     rw (up-first d d' i m f, up-first c c' i m g, deviceRows-up d c d' c' (suc i) m (up-rest d d' i m f) (up-rest c c' i m g))
 
-up-inserted : {xs ys : List ℕ} {p v : ℕ} → Inserted xs p v ys → (m : ℕ) → p + m < 256 → Up xs ys p m
+up-inserted : {xs ys : List ℕ} {n p v : ℕ} → Inserted xs n p v ys → (m : ℕ) → p + m ≤ n → Up xs ys p m
 up-inserted h m b k l s = h .after k l (omega arith)
 
-up-deleted : {xs ys : List ℕ} {p : ℕ} → Deleted xs p ys → (m : ℕ) → p + m < 256 → Up ys xs p m
+up-deleted : {xs ys : List ℕ} {n p : ℕ} → Deleted xs n p ys → (m : ℕ) → p + m < n → Up ys xs p m
 up-deleted h m b k l s = sym (h .after k l (omega arith))
 
 -- ---- insert
 
 -- an absent id goes to its place
-module _ {d c d' c' : List ℕ} {n p v w : ℕ} (q : Position d n v p) (new : p < n → at d p ≡ v → ⊥) (b : n < 256)
-    (x : Inserted d p v d') (y : Inserted c p w c') where
+module _ {d c d' c' : List ℕ} {n p v w : ℕ} (q : Position d n v p) (new : p < n → at d p ≡ v → ⊥)
+    (x : Inserted d n p v d') (y : Inserted c n p w c') where
   insert-from : (i m : ℕ) → i + m ≡ n → i ≤ p → deviceRows d' c' i (suc m) ≡ insert v w (deviceRows d c i m)
   insert-from i zero e l = let k : i ≡ p = omega (arith, q .most) in rw (k, x .here, y .here)
   insert-from i (suc m) e l = go (eq-or-lt-of-le l) (insert-from (suc i) m (omega arith))
@@ -168,8 +168,8 @@ delete-without d c v i zero h = refl
 delete-without d c v i (suc m) h =
     rw (ne-eqb v (at d i) (h i (omega arith) (omega arith)), delete-without d c v (suc i) m (λ k l b. h k (omega arith) (omega arith)))
 
-module _ {d c d' c' : List ℕ} {n p v : ℕ} (l : p < n) (e : at d p ≡ v) (a : Ascending d n) (b : n ≤ 256)
-    (x : Deleted d p d') (y : Deleted c p c') where
+module _ {d c d' c' : List ℕ} {n p v : ℕ} (l : p < n) (e : at d p ≡ v) (a : Ascending d n)
+    (x : Deleted d n p d') (y : Deleted c n p c') where
   delete-here : (m : ℕ) → p + suc m ≡ n → deviceRows d' c' p m ≡ delete v (deviceRows d c p (suc m))
   delete-here m s =
       rw (eq-eqb v (at d p) (sym e), delete-without d c v (suc p) m (λ k h r z. omega (arith, a p k (omega arith) (omega arith))))

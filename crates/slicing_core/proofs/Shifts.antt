@@ -1,58 +1,44 @@
--- Rows of an array moved up or down by one.
+-- Rows of an array moved up or down by one, one after another.
 --
---   inserted xs p v k     what stands at place k of xs once v is put in at p
---   deleted xs p k        what stands there once the row at p is gone
---
--- inserted: inserted-before, inserted-here, inserted-after; deleted: deleted-before, deleted-after
--- FilledTo: filled-inserted, filled-deleted
+-- Inserted: inserted-none (no row moved yet), inserted-more; Deleted: deleted-none, deleted-more
 use mathlib.Core.Path.{_≡_, refl, _∙_}
-use mathlib.Core.Bool.{cond}
 use mathlib.Core.List.{List}
 use Prim.Native.Nat.{ℕ, _+_, _-_, _≤_, _<_}
 use native.Mathlib.Omega.{arith}
-use lib.Dec.{eqb, ltb}
-use borrow.Author.Tests.{lt-ltb, le-ltb, eq-eqb, ne-eqb}
+use lib.ListN.{length, set, length-set}
+use lib.Seq.{getD-set-same, getD-set-other}
+use borrow.Author.Count.{below-more}
 use Rattle.slicing_core.specs.Rows.{at}
 use Rattle.slicing_core.specs.Stages.{Inserted, Deleted}
-use Rattle.slicing_core.proofs.FilledArrays.{FilledTo}
 
-abbrev pub inserted : List ℕ → ℕ → ℕ → ℕ → ℕ
-inserted xs p v k = cond (ltb k p) (at xs k) (cond (eqb k p) v (at xs (k - 1)))
-
-abbrev pub deleted : List ℕ → ℕ → ℕ → ℕ
-deleted xs p k = cond (ltb k p) (at xs k) (at xs (k + 1))
-
-module _ (xs : List ℕ) (v : ℕ) {p k : ℕ} where
-  pub inserted-before : k < p → inserted xs p v k ≡ at xs k
-  inserted-before l = rw (lt-ltb k p l)
-
-  pub inserted-here : k ≡ p → inserted xs p v k ≡ v
-  inserted-here e = rw (le-ltb k p (omega arith), eq-eqb k p e)
-
-  pub inserted-after : p ≤ k → (k ≡ p → ⊥) → inserted xs p v k ≡ at xs (k - 1)
-  inserted-after l h = rw (le-ltb k p l, ne-eqb k p h)
-
-module _ (xs : List ℕ) {p k : ℕ} where
-  pub deleted-before : k < p → deleted xs p k ≡ at xs k
-  deleted-before l = rw (lt-ltb k p l)
-
-  pub deleted-after : p ≤ k → deleted xs p k ≡ at xs (k + 1)
-  deleted-after l = rw (le-ltb k p l)
-
-pub filled-inserted : {xs r : List ℕ} {p v : ℕ} → p < 256 → FilledTo (inserted xs p v) r 256 → Inserted xs p v r
-filled-inserted {xs} {r} {p} {v} b h = record {
-  size = h .size;
-  before = λ k l. h .done k (omega arith) ∙ inserted-before xs v l;
-  here = h .done p b ∙ inserted-here xs v {p = p} refl;
-  after = λ k l m.
-      let e : k + 1 - 1 ≡ k = omega arith in
-      h .done (k + 1) m ∙ inserted-after xs v {k = k + 1} (omega arith) (λ z. omega arith) ∙ rw e;
+pub inserted-none : (xs : List ℕ) (p v : ℕ) → length xs ≡ 256 → p < 256 → Inserted xs p p v (set xs p v)
+inserted-none xs p v e b = record {
+  size = length-set xs p v ∙ e;
+  before = λ i l. getD-set-other xs p i v 0 (λ z. omega arith);
+  here = getD-set-same xs p v 0 (omega (arith, e));
+  after = λ i l m. absurd (omega arith);
 }
 
-pub filled-deleted : {xs r : List ℕ} {p : ℕ} → p < 256 → FilledTo (deleted xs p) r 255 → Deleted xs p r
-filled-deleted {xs} {r} {p} b h = record {
-  size = h .size;
-  before = λ k l. h .done k (omega arith) ∙ deleted-before xs l;
-  after = λ k l m. h .done k (omega arith) ∙ deleted-after xs l;
-  last = h .left 255 (omega arith);
+-- the row at n goes up
+pub inserted-more : {xs r : List ℕ} {n p v : ℕ} → Inserted xs n p v r → p ≤ n → n + 1 < 256 → Inserted xs (n + 1) p v (set r (n + 1) (at xs n))
+inserted-more {xs} {r} {n} {p} {v} h l b = record {
+  size = length-set r (n + 1) (at xs n) ∙ h .size;
+  before = λ i m. getD-set-other r (n + 1) i (at xs n) 0 (λ z. omega arith) ∙ h .before i m;
+  here = getD-set-other r (n + 1) p (at xs n) 0 (λ z. omega arith) ∙ h .here;
+  after = λ i m k. below-more (λ j. p ≤ j → at (set r (n + 1) (at xs n)) (j + 1) ≡ at xs j) n
+      (λ j s t. getD-set-other r (n + 1) (j + 1) (at xs n) 0 (λ z. omega arith) ∙ h .after j t s)
+      (λ t. getD-set-same r (n + 1) (at xs n) 0 (omega (arith, h .size))) i k m;
+}
+
+pub deleted-none : (xs : List ℕ) (p : ℕ) → length xs ≡ 256 → Deleted xs (p + 1) p xs
+deleted-none xs p e = record { size = e; before = λ i l. refl; after = λ i l m. absurd (omega arith) }
+
+-- the row at n goes down
+pub deleted-more : {xs r : List ℕ} {n p : ℕ} → Deleted xs n p r → p < n → n < 256 → Deleted xs (n + 1) p (set r (n - 1) (at xs n))
+deleted-more {xs} {r} {n} {p} h l b = record {
+  size = length-set r (n - 1) (at xs n) ∙ h .size;
+  before = λ i m. getD-set-other r (n - 1) i (at xs n) 0 (λ z. omega arith) ∙ h .before i m;
+  after = λ i m k. below-more (λ j. p ≤ j → at (set r (n - 1) (at xs n)) j ≡ at xs (j + 1)) (n - 1)
+      (λ j s t. getD-set-other r (n - 1) j (at xs n) 0 (λ z. omega arith) ∙ h .after j t (omega arith))
+      (λ t. let e : n - 1 + 1 ≡ n = omega arith in getD-set-same r (n - 1) (at xs n) 0 (omega (arith, h .size)) ∙ rw e) i (omega arith) m;
 }

@@ -43,16 +43,15 @@ pub record Position (ids : List ℕ) (n id p : ℕ) : Type 0 where
   pub below : (i : ℕ) → i < p → at ids i < id
   pub from : p < n → id ≤ at ids p
 
--- a row more at place p
-pub record Inserted (xs : List ℕ) (p v : ℕ) (r : List ℕ) : Type 0 where
+-- of n rows, a row more at place p
+pub record Inserted (xs : List ℕ) (n p v : ℕ) (r : List ℕ) : Type 0 where
   pub size : length r ≡ 256
   pub before : (i : ℕ) → i < p → at r i ≡ at xs i
   pub here : at r p ≡ v
-  pub after : (i : ℕ) → p ≤ i → i + 1 < 256 → at r (i + 1) ≡ at xs i
+  pub after : (i : ℕ) → p ≤ i → i < n → at r (i + 1) ≡ at xs i
 
--- the row at place p less
-pub record Deleted (xs : List ℕ) (p : ℕ) (r : List ℕ) : Type 0 where
+-- of n rows, the row at place p less
+pub record Deleted (xs : List ℕ) (n p : ℕ) (r : List ℕ) : Type 0 where
   pub size : length r ≡ 256
   pub before : (i : ℕ) → i < p → at r i ≡ at xs i
-  pub after : (i : ℕ) → p ≤ i → i + 1 < 256 → at r i ≡ at xs (i + 1)
-  pub last : at r 255 ≡ 0
+  pub after : (i : ℕ) → p ≤ i → i + 1 < n → at r i ≡ at xs (i + 1)

@@ -2,8 +2,10 @@
 use slicing::MAX_CAPACITY;
 use slicing::MAX_DEVICES;
 use slicing::MAX_ID;
+ghost use mathlib.Core.Path.{_≡_};
 ghost use mathlib.Core.Bool.{true};
 ghost use Prim.Native.Nat.{_+_, _-_, _≤_, _<_};
+ghost use lib.ListN.{length};
 ghost use Rattle.slicing.specs.Devices.{Rising};
 ghost use Rattle.slicing_core.specs.Rows.{deviceRows};
 ghost use Rattle.slicing_core.specs.Stages.{Decides, Inserted, Deleted};
@@ -36,41 +38,30 @@ pub fn rising(ids: &[u64; MAX_DEVICES], capacities: &[u64; MAX_DEVICES], n: usiz
     true
 }
 
-// The rows with `value` at place p, those from there on moved up by one, the last one dropped.
-pub fn insert_row(rows: &[u64; MAX_DEVICES], p: usize, value: u64) -> [u64; MAX_DEVICES]
-    requires { ⌜ p < 256 ⌝ }
-    ensures { λ r. ⌜ Inserted (now (rows .entry)) p value r ⌝ }
+// The n rows with `value` at place p, those from there on moved up by one.
+pub fn insert_row(rows: &[u64; MAX_DEVICES], n: usize, p: usize, value: u64) -> [u64; MAX_DEVICES]
+    requires { ⌜ (p ≤ n) × (n < 256) × (length (now rows) ≡ 256) ⌝ }
+    ensures { λ r. ⌜ Inserted (now (rows .entry)) n p value r ⌝ }
 {
-    let mut into = [0u64; MAX_DEVICES];
-    let mut i = 0;
-    while i < MAX_DEVICES {
-        if i < p {
-            into[i] = rows[i];
-        } else {
-            if i == p {
-                into[i] = value;
-            } else {
-                into[i] = rows[i - 1];
-            }
-        }
+    let mut into = *rows;
+    into[p] = value;
+    let mut i = p;
+    while i < n {
+        into[i + 1] = rows[i];
         i += 1;
     }
     into
 }
 
-// The rows without that at place p, those after it moved down by one, and 0 at the end.
-pub fn delete_row(rows: &[u64; MAX_DEVICES], p: usize) -> [u64; MAX_DEVICES]
-    requires { ⌜ p < 256 ⌝ }
-    ensures { λ r. ⌜ Deleted (now (rows .entry)) p r ⌝ }
+// The n rows without that at place p, those after it moved down by one.
+pub fn delete_row(rows: &[u64; MAX_DEVICES], n: usize, p: usize) -> [u64; MAX_DEVICES]
+    requires { ⌜ (p < n) × (n ≤ 256) × (length (now rows) ≡ 256) ⌝ }
+    ensures { λ r. ⌜ Deleted (now (rows .entry)) n p r ⌝ }
 {
-    let mut into = [0u64; MAX_DEVICES];
-    let mut i = 0;
-    while i < 255 {
-        if i < p {
-            into[i] = rows[i];
-        } else {
-            into[i] = rows[i + 1];
-        }
+    let mut into = *rows;
+    let mut i = p + 1;
+    while i < n {
+        into[i - 1] = rows[i];
         i += 1;
     }
     into

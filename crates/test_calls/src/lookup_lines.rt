@@ -34,7 +34,7 @@ pub fn share(pool: Pool, line: &[u8]) -> bool {
     let Parsed::Number(id) = number(word(line, 2)) else {
         return false;
     };
-    printing::share(pools::share(pool, id));
+    printing::share(valid_pools::share(pool, id));
     true
 }
 

@@ -6,7 +6,6 @@ use lookups::CopiesAnswer;
 use lookups::OwnerAnswer;
 use lookups::PointAnswer;
 use pools::PoolAnswer;
-use pools::ShareAnswer;
 use sha1::DigestAnswer;
 use test_text::end_line;
 use test_text::first;
@@ -14,6 +13,7 @@ use test_text::pair;
 use test_text::space;
 use test_text::spaced;
 use test_text::wide32;
+use valid_pools::ShareAnswer;
 
 pub fn digest(answer: DigestAnswer) {
     let list = answer.words;

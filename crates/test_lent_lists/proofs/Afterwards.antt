@@ -7,12 +7,12 @@ use native.Mathlib.Nat.{min-le-right}
 use mathlib.Core.List.{List, _++_}
 use lib.ListN.{length, take, drop}
 use lib.Seq.{length-take-le, take-append-seam}
-use Rattle.plans.specs.declared.Call.{Call}
+use Rattle.calls.specs.declared.Call.{Call}
 use Rattle.placement.specs.declared.ChangeAnswer.{ChangeAnswer}
 use Rattle.pools.specs.declared.Pool.{Pool}
-use Rattle.plans.specs.Plans.{changeOf}
+use Rattle.calls.specs.Calls.{changeOf}
 use Rattle.slicing.specs.Changes.{Change}
-use Rattle.six_steps.specs.Words.{room}
+use Rattle.packed_runs.specs.Words.{room}
 use Rattle.placement.specs.Promises.{Changed}
 use Rattle.placement.specs.declared.Move.{Move}
 use Rattle.test_lent_lists.specs.Promises.{blanks, Lends}

@@ -49,7 +49,7 @@ use Rattle.by_hand.proofs.Locals.{free, held}
 use Rattle.by_hand.proofs.Plainly.{calls-plain}
 use Rattle.slicing.specs.Changes as Changes
 use Rattle.slicing.specs.Changes.{Change}
-use Rattle.six_steps.specs.Words.{room}
+use Rattle.packed_runs.specs.Words.{room}
 use Rattle.placement.specs.declared.ChangeAnswer.{ChangeAnswer}
 use Rattle.pools.specs.declared.Pool.{Pool}
 use Rattle.placement.proofs.ChangeAnswer as N

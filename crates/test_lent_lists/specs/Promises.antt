@@ -7,7 +7,7 @@ use Prim.Native.Nat.{ℕ, min}
 use lib.ListN.{take, replicate}
 use Rattle.pools.specs.declared.Pool.{Pool}
 use Rattle.slicing.specs.Changes.{Change}
-use Rattle.six_steps.specs.Words.{room}
+use Rattle.packed_runs.specs.Words.{room}
 use Rattle.placement.specs.Promises.{Changed}
 use Rattle.placement.specs.declared.Move.{Move}
 use Rattle.test_lent_lists.specs.declared.Lent.{Lent}

@@ -1,14 +1,14 @@
 // The offered changes, each on a list of its own, which is given back by value. For test programs.
+use calls::Call;
+use packed_runs::ROOM;
 use placement::ChangeAnswer;
 use placement::Move;
-use plans::Call;
 use pools::Pool;
-use six_steps::runs::ROOM;
 ghost use mathlib.Core.Path.{_≡_};
 ghost use Prim.Native.Nat.{min};
 ghost use Rattle.slicing.specs.Changes as Changes;
-ghost use Rattle.six_steps.specs.Words.{room};
-ghost use Rattle.plans.specs.Plans.{changeOf};
+ghost use Rattle.packed_runs.specs.Words.{room};
+ghost use Rattle.calls.specs.Calls.{changeOf};
 ghost use Rattle.test_lent_lists.specs.Promises.{blanks, Lends};
 
 // An answer, and the list afterwards: the places that were lent, and blank ones after them.

@@ -1,6 +1,6 @@
 -- `image_changes::change` meets its contract.
 use borrow.Author.Needs.{needs}
-use Rattle.plans.specs.Plans.{changeOf}
+use Rattle.calls.specs.Calls.{changeOf}
 use Rattle.image_changes.proofs.MovedLists.{change-room, change-refused, change-opened, change-valid, change-unfit, change-done}
 use Rattle.image_changes.proofs.change.Statement.{statement}
 use Rattle.image_changes.proofs.change.Tie as tie

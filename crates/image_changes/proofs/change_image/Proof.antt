@@ -1,7 +1,7 @@
 -- `image_changes::change_image` meets its contract.
 use native.Mathlib.Omega.{arith}
 use borrow.Author.Needs.{needs}
-use Rattle.plans.specs.Plans.{changeOf}
+use Rattle.calls.specs.Calls.{changeOf}
 use Rattle.image_changes.proofs.MovedLists.{changed-short, changed-unread, changed-read}
 use Rattle.image_changes.proofs.change_image.Statement.{statement}
 use Rattle.image_changes.proofs.change_image.Tie as tie

@@ -8,7 +8,8 @@ use borrow.Author.Tests.{not-true, not-false}
 use Rattle.slicing.specs.Changes.{State, change}
 use Rattle.slicing_core.specs.Stages.{Decides}
 use Rattle.opened.specs.OpenPools.{stateIn, Open}
-use Rattle.plans.specs.Plans.{Planned, changeOf}
+use Rattle.plans.specs.Plans.{Planned}
+use Rattle.calls.specs.Calls.{changeOf}
 use Rattle.pools.specs.Pools.{stateOf, ValidPool}
 use Rattle.pools.specs.declared.Pool.{Pool}
 use Rattle.placement.proofs.Drafts.{drawn-invalid, drawn-refused, drawn-planned}

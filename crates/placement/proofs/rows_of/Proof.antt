@@ -4,7 +4,7 @@ use mathlib.Core.Logic.{⊎-elim}
 use Prim.Native.Nat.{_-_, _<_}
 use native.Mathlib.Omega.{arith}
 use borrow.Author.Needs.{needs}
-use Rattle.six_steps.specs.Words.{room}
+use Rattle.packed_runs.specs.Words.{room}
 use Rattle.placement.proofs.Listing.{Listed, listed-none, listed-size, listed-on, listed-more, listed-end}
 use Rattle.placement.proofs.rows_of.Statement.{statement}
 use Rattle.placement.proofs.rows_of.Tie as tie

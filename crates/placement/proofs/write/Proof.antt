@@ -50,7 +50,7 @@ use Rattle.by_hand.proofs.LocalArrays.{array-open, array-shut}
 use Rattle.by_hand.proofs.Locals.{free, held}
 use Rattle.by_hand.proofs.Plainly.{calls-plain}
 use Rattle.by_hand.proofs.While.{while-test}
-use Rattle.six_steps.specs.Words.{room as most}
+use Rattle.packed_runs.specs.Words.{room as most}
 use Rattle.placement.specs.declared.ChangeAnswer.{ChangeAnswer}
 use Rattle.placement.proofs.ChangeAnswer as N
 use Rattle.placement.proofs.ChangeAnswer.Laws as N′

@@ -7,10 +7,10 @@ use lib.ListN.{length}
 use borrow.Author.Needs.{needs}
 use Rattle.pools.specs.Pools.{poolOf}
 use Rattle.history_lines.proofs.TextParts.{part-fits, part-above}
-use Rattle.history.specs.Advances.{readingIn}
-use Rattle.history.specs.Replay.{Reading, Result}
-use Rattle.history.proofs.AdvancedLines.{line-refused}
-use Rattle.history.proofs.OpenReadings.{Ready, start-ready, start-reading}
+use Rattle.history_steps.specs.Advances.{readingIn}
+use Rattle.history_steps.specs.Steps.{Reading, Result}
+use Rattle.history_steps.proofs.AdvancedLines.{line-refused}
+use Rattle.history_steps.proofs.OpenReadings.{Ready, start-ready, start-reading}
 use Rattle.history.proofs.PoolsLeft.{Leaving, leaving-none, leaving-step, left-long, left-whole}
 use Rattle.history.proofs.last_pool.pool_after.Statement.{statement}
 use Rattle.history.proofs.last_pool.pool_after.Tie as tie

@@ -7,10 +7,10 @@ use native.Mathlib.Omega.{arith}
 use lib.ListN.{length}
 use borrow.Author.Needs.{needs}
 use Rattle.history_lines.proofs.TextParts.{part-fits, part-above}
-use Rattle.history.specs.Advances.{readingIn}
-use Rattle.history.specs.Replay.{Result}
-use Rattle.history.proofs.AdvancedLines.{line-refused}
-use Rattle.history.proofs.OpenReadings.{Ready, start-ready, start-reading, ready-as, reading-as}
+use Rattle.history_steps.specs.Advances.{readingIn}
+use Rattle.history_steps.specs.Steps.{Result}
+use Rattle.history_steps.proofs.AdvancedLines.{line-refused}
+use Rattle.history_steps.proofs.OpenReadings.{Ready, start-ready, start-reading, ready-as, reading-as}
 use Rattle.history.proofs.Replaying.{Replaying, gives-refused, gives-advanced, replaying-none, replaying-room, replaying-step, replaying-table, replaying-end, closed-valid}
 use Rattle.history.proofs.transcripts.replay.Statement.{statement}
 use Rattle.history.proofs.transcripts.replay.Tie as tie

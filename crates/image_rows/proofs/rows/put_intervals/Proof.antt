@@ -7,7 +7,7 @@ use native.Mathlib.Omega.{arith}
 use lib.ListN.{length, drop}
 use Rattle.slicing.specs.Runs.{total, relabel, intervals}
 use Rattle.slicing_core.specs.Rows.{at}
-use Rattle.six_steps.specs.Words.{runs}
+use Rattle.packed_runs.specs.Words.{runs}
 use Rattle.opened.proofs.OpenPools.{open-few, open-intervals, open-points}
 use Rattle.pools.proofs.ClosedPools.{total-runs-more, total-runs-le}
 use Rattle.image_rows.specs.Promises.{intervalsAs}

@@ -7,8 +7,8 @@ use lib.Dec.{eqb}
 use lib.ListN.{length}
 use borrow.Author.Needs.{needs}
 use borrow.Author.Tests.{le-leb, lt-leb}
-use Rattle.images.specs.Format.{mark, headSize, numberAt, marked}
-use Rattle.images.proofs.ByteNumbers.{joined}
+use Rattle.image_numbers.specs.Format.{mark, headSize, numberAt, marked}
+use Rattle.image_numbers.proofs.ByteNumbers.{joined}
 use Rattle.images.proofs.reader.marked.Statement.{statement}
 use Rattle.images.proofs.reader.marked.Tie as tie
 

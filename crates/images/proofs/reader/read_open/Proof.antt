@@ -9,9 +9,9 @@ use lib.ListN.{length}
 use borrow.Author.Needs.{needs}
 use borrow.Author.Tests.{not-true, not-false}
 use Rattle.slicing_core.specs.Stages.{Decides}
-use Rattle.six_steps.specs.Words.{room}
+use Rattle.packed_runs.specs.Words.{room}
 use Rattle.pools.specs.Pools.{ValidPool, Cleared}
-use Rattle.images.specs.Format.{version, versionIn, marked}
+use Rattle.image_numbers.specs.Format.{version, versionIn, marked}
 use Rattle.images.specs.Promises.{unmarked, versioned, faulty}
 use Rattle.images.proofs.PoolsRead.{poolIn-cleared}
 use Rattle.images.proofs.ReadAnswers.{marked-size, many-devices, many-intervals, another-size, not-valid, sound, read-whole, not-opened}

@@ -2,7 +2,7 @@
 use native.Mathlib.Omega.{arith}
 use borrow.Author.Needs.{needs}
 use Rattle.pools.proofs.ValidParts.{valid-limited}
-use Rattle.images.proofs.WrittenImages.{stored-short, stored-whole}
+use Rattle.images.proofs.WriteAnswers.{stored-short, stored-whole}
 use Rattle.images.proofs.writer.store.Statement.{statement}
 use Rattle.images.proofs.writer.store.Tie as tie
 

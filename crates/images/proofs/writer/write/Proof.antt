@@ -2,7 +2,7 @@
 use borrow.Author.Needs.{needs}
 use borrow.Author.Tests.{not-true, not-false}
 use Rattle.pools.specs.Pools.{ValidPool}
-use Rattle.images.proofs.WrittenImages.{written-invalid, written-valid}
+use Rattle.images.proofs.WriteAnswers.{written-invalid, written-valid}
 use Rattle.images.proofs.writer.write.Statement.{statement}
 use Rattle.images.proofs.writer.write.Tie as tie
 

@@ -4,7 +4,7 @@ use Prim.Native.Nat.{_-_, _%_, _≤_, _<_}
 use native.Mathlib.Omega.{arith}
 use Rattle.slicing.specs.Runs.{relabel}
 use Rattle.slicing_core.specs.Rows.{at}
-use Rattle.six_steps.specs.Words.{runs}
+use Rattle.packed_runs.specs.Words.{runs}
 use Rattle.pools.specs.Pools.{padded, ownersOf}
 use Rattle.pools.proofs.ClosedPools.{ownersOf-run}
 use Rattle.pools.proofs.closing.owners_of.Statement.{statement}

@@ -5,7 +5,7 @@ use Prim.Native.Nat.{_+_, _-_, _/_, _≤_}
 use native.Mathlib.Omega.{arith}
 use Rattle.slicing.specs.Runs.{total}
 use Rattle.slicing_core.specs.Rows.{at}
-use Rattle.six_steps.specs.Words.{runs}
+use Rattle.packed_runs.specs.Words.{runs}
 use Rattle.pools.specs.Pools.{padded, startsOf}
 use Rattle.pools.proofs.ClosedPools.{total-runs-more, total-runs-le, startsOf-run}
 use Rattle.pools.proofs.closing.starts_of.Statement.{statement}

@@ -6,8 +6,8 @@ use borrow.Author.Needs.{needs}
 use Rattle.slicing.specs.SixSteps.{end, walk}
 use Rattle.slicing_core.specs.Rows.{at}
 use Rattle.slicing_core.proofs.Cutting.{cutTo-gap}
-use Rattle.six_steps.specs.Words.{runs}
-use Rattle.six_steps.proofs.Words.{at-total}
+use Rattle.packed_runs.specs.Words.{runs}
+use Rattle.packed_runs.proofs.Words.{at-total}
 use Rattle.six_steps.proofs.CutSteps.{Cutting, cutting-none, cutting-small, cutting-room, cutting-pass, cutting-step, cutting-end}
 use Rattle.six_steps.proofs.cutting.cut.Statement.{statement}
 use Rattle.six_steps.proofs.cutting.cut.Tie as tie

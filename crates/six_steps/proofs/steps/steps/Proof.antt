@@ -5,7 +5,7 @@ use Prim.Native.Nat.{_≤_}
 use lib.ListN.{length}
 use borrow.Author.Needs.{needs}
 use Rattle.slicing.specs.SixSteps.{movesFrom}
-use Rattle.six_steps.specs.Words.{room}
+use Rattle.packed_runs.specs.Words.{room}
 use Rattle.six_steps.proofs.Composition.{Pieced, Turned, pieced, pieced-enough, pieced-total, pieced-turned, turned-moved, turned-total, turned-owners, turned-table, turned-labels}
 use Rattle.six_steps.proofs.steps.steps.Statement.{statement}
 use Rattle.six_steps.proofs.steps.steps.Tie as tie

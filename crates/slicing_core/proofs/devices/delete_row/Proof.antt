@@ -1,38 +1,36 @@
--- `slicing_core::devices::delete_row` meets its contract. The loop's invariant: the first `i` rows are those without that at `p`.
-use mathlib.Core.Path.{_≡_, sym}
-use mathlib.Core.Logic.{⊎-elim}
+-- `slicing_core::devices::delete_row` meets its contract. The loop's invariant: of the first `i` rows, that at `p` less.
+use mathlib.Core.Path.{_≡_}
 use Prim.Native.Nat.{_-_, _≤_, _<_}
 use native.Mathlib.Omega.{arith}
 use borrow.Author.Needs.{needs}
-use Rattle.slicing_core.proofs.FilledArrays.{FilledTo, filledTo-none, filledTo-put}
-use Rattle.slicing_core.proofs.Shifts.{deleted, deleted-before, deleted-after, filled-deleted}
+use Rattle.slicing_core.specs.Stages.{Deleted}
+use Rattle.slicing_core.proofs.Shifts.{deleted-none, deleted-more}
 use Rattle.slicing_core.proofs.devices.delete_row.Statement.{statement}
 use Rattle.slicing_core.proofs.devices.delete_row.Tie as tie
 
 abbrev Inv-loop : tie.InvT-loop
-Inv-loop rows p into₀ i₀ into i = (i ≤ 255) × FilledTo (deleted rows p) into i
+Inv-loop rows n p into₀ i₀ into i = (p < i) × (i ≤ n) × Deleted rows i p into
 
 abbrev μ-loop : tie.MeasureT-loop
-μ-loop rows p into₀ i₀ into i = 255 - i
+μ-loop rows n p into₀ i₀ into i = n - i
 
 loop-holds : tie.Need-loop-holds Inv-loop μ-loop
-loop-holds c = (omega arith, filledTo-none _)
+loop-holds c =
+    let pre = c .before .pre in
+    (omega arith, omega (arith, pre .0), deleted-none _ _ (pre .2))
 
 loop-again : tie.Need-loop-again Inv-loop μ-loop
 loop-again c =
-    let rows = c .before .before .before .args .rows .now in
-    let pass = c .before .before .loop in
-    let l : pass .i < 256 = omega arith in (
-      omega arith,
-      ⊎-elim (λ w. filledTo-put (pass .inv .1) l (w .2) (sym (deleted-before rows (w .0 .taken))))
-          (λ w. filledTo-put (pass .inv .1) l (w .2) (sym (deleted-after rows (w .0 .left))))
-          (c .if1 .came),
-    )
+    let pass = c .before .before in
+    let w = pass .loop .inv in
+    let l = c .before .loop-test .taken in
+    (omega (arith, w .0), omega (arith, l), deleted-more (w .2) (w .0) (omega (arith, l, pass .before .before .pre .1)))
 
 returns : tie.Need-returns Inv-loop μ-loop
 returns c =
-    let e : c .before .loop .i ≡ 255 = omega arith in
-    filled-deleted (c .before .before .pre) (rw e at (c .before .loop .inv .1))
+    let w = c .before .loop .inv in
+    let e : c .before .loop .i ≡ c .before .before .before .args .n = omega (arith, w .1, c .loop-test .left) in
+    rw e at (w .2)
 
 pub delete-row-spec : {M : Type 1} → statement M
 delete-row-spec =
@@ -40,11 +38,8 @@ delete-row-spec =
     (tie.spec
     Inv-loop
     μ-loop
+    (λ c. search needs)
     loop-holds
-    (λ c. search needs)
-    (λ c. search needs)
-    (λ c. search needs)
-    (λ c. search needs)
     (λ c. search needs)
     (λ c. search needs)
     (λ c. search needs)

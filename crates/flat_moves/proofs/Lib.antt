@@ -1,0 +1,2 @@
+pub mod FlatLists
+pub mod WrittenMoves

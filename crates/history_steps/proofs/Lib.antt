@@ -1,0 +1,3 @@
+pub mod AppliedLines
+pub mod OpenReadings
+pub mod AdvancedLines

@@ -1,0 +1,4 @@
+pub mod ImageRows
+pub mod ReadColumns
+pub mod RowFronts
+pub mod WrittenImages

@@ -1,0 +1,3 @@
+pub mod ImageSizes
+pub mod ByteNumbers
+pub mod Fronts

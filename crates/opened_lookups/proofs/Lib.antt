@@ -1,0 +1,2 @@
+pub mod OpenedPools
+pub mod OpenedLookups

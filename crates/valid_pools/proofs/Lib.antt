@@ -1,0 +1,4 @@
+pub mod WidenedColumns
+pub mod HeldRows
+pub mod ShareAnswers
+pub mod CheckedPools
