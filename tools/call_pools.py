@@ -1,7 +1,11 @@
-"""Pools for the cases of crates/test_calls: by their numbers, as images, and pools that are not valid; and the lines of calls.in.
+"""Pools for the cases of crates/test_calls: by their numbers, as images, and pools that are not valid.
 
 A case is a line given, with the line printed.
 """
+
+
+# the largest capacity, in thousandths of a TB
+CAPACITY_MOST = 16_000_000
 
 
 class Pool:
@@ -59,15 +63,6 @@ def pool_of(b):
     return Pool(number(b[5:13]), number(b[13:15]), devices, rows)
 
 
-def calls_of(folder, *kinds):
-    """The lines of calls.in that begin with one of these words, each as its words and those of its answer."""
-    lines = zip((folder / "calls.in").read_text().split("\n"), (folder / "calls.out").read_text().split("\n"))
-    for call, answer in lines:
-        words = call.split()
-        if words and words[0] in kinds:
-            yield words, answer.split()
-
-
 # the pool of a refused call that makes one
 SMALLEST = Pool(1, 1, [], [])
 
@@ -109,7 +104,7 @@ INVALID = [
     Pool(10, 8, [], [(1, 0)], q=0),
     # devices
     Pool(10, 8, [(1, 0), (2, 1000)], [(0, 2)]),
-    Pool(10, 8, [(1, 1000001), (2, 1000001)], ROWS),
+    Pool(10, 8, [(1, CAPACITY_MOST + 1), (2, CAPACITY_MOST + 1)], ROWS),
     Pool(10, 8, [(1, 2**32 - 1)], [(0, 1)]),
     Pool(10, 8, [(0, 1000), (2, 1000)], [(0, 0), (5, 2)]),
     Pool(10, 8, [(2, 1000), (1, 1000)], ROWS),

@@ -1,14 +1,14 @@
-"""Cases for crates/test_calls from a folder of test vectors (calls.in, calls.out, histories/): fresh pools, changes and shares.
+"""Cases for crates/test_calls from test vectors (vectors.py): fresh pools, changes and shares.
 
 The head of crates/test_calls/src/main.rt describes the lines. The cases, all of the kept pool:
 
 - fresh pools at the limits
 - changes and shares of pools that are not valid: refusal 2, and the pool and the list unchanged
-- each add, remove and resize of calls.in, with the list unchanged behind the moves, the pool afterwards, and the share of each device
+- each add, remove and resize of the vectors, with the list unchanged behind the moves, the pool afterwards, and the share of each device
 - the changes of each history, with the three numbers printed for each, and the pool and shares at the end;
   lines that are refused for their text or their place (1 and 3) are left out
 """
-from call_pools import INVALID, SMALLEST, Pool, calls_of, line, pool_of
+from call_pools import INVALID, SMALLEST, Pool, line, pool_of
 
 PLACES = 4096
 
@@ -51,8 +51,8 @@ def invalid():
         yield line("share", ".", 1), line(2, 0)
 
 
-def calls(folder):
-    for (kind, before, *numbers, places), (refusal, moved, count, after, *_) in calls_of(folder, "add", "remove", "resize"):
+def calls(vectors):
+    for (kind, before, *numbers, places), (refusal, moved, count, after, *_) in vectors.calls("add", "remove", "resize"):
         pool = pool_of(bytes.fromhex(after))
         yield pool_of(bytes.fromhex(before)).keep()
         yield change_case(kind, numbers, int(places), refusal, moved, count)
@@ -90,13 +90,13 @@ def history(given, printed):
         yield from shares(pool)
 
 
-def histories(folder):
-    for path in sorted((folder / "histories").glob("*.in")):
+def histories(vectors):
+    for path in vectors.histories:
         printed = path.with_suffix(".out").read_text().split("\n")
         if "table" in printed:
             yield from history(path.read_bytes().split(b"\n"), printed)
 
 
-def cases(folder):
+def cases(vectors):
     """The lines given, with what is printed of each."""
-    return [*fresh(), *invalid(), *calls(folder), *histories(folder)]
+    return [*fresh(), *invalid(), *calls(vectors), *histories(vectors)]

@@ -1,8 +1,8 @@
-"""Cases for crates/test_calls from a folder of test vectors (calls.in, calls.out): images read, written and damaged.
+"""Cases for crates/test_calls from test vectors (vectors.py): images read, written and damaged.
 
 The head of crates/test_calls/src/main.rt describes the lines. The cases:
 
-- each image of calls.in with a byte more, a byte less, and cut to 18 and 19 bytes
+- each image of the vectors with a byte more, a byte less, and cut to 18 and 19 bytes
 - pools at the limits, one of 256 devices and 4,096 intervals, and pools that are not valid, written and read back
 - every change of a single byte of several images
 
@@ -11,7 +11,7 @@ of calls.in.
 """
 from hashlib import sha1
 
-from call_pools import INVALID, SMALLEST, Pool, calls_of, line, number, pool_of, spelled
+from call_pools import CAPACITY_MOST, INVALID, SMALLEST, Pool, line, number, pool_of, spelled
 
 SIZE = 32768
 EMPTY = SMALLEST.image()
@@ -38,7 +38,7 @@ def sound(b):
     owners = [d for _, d in pool.rows]
     if not (1 <= pool.size <= 2**32 and 1 <= pool.limit <= 4096 and n <= 256 and q <= pool.limit):
         return False
-    if ids != sorted(set(ids)) or 0 in ids or not all(1 <= c <= 1000000 for _, c in pool.devices):
+    if ids != sorted(set(ids)) or 0 in ids or not all(1 <= c <= CAPACITY_MOST for _, c in pool.devices):
         return False
     if n == 0:
         return q == 0
@@ -88,23 +88,23 @@ def damage_case(b):
     return line("single", spelled(b)), line(*counts.values(), 0)
 
 
-def images_of(folder):
-    """The bytes of the read and write lines of calls.in."""
-    return [bytes.fromhex(words[1].strip("-")) for words, _ in calls_of(folder, "read", "write")]
+def images_of(vectors):
+    """The bytes of the read and write lines of the vectors."""
+    return [bytes.fromhex(words[1].strip("-")) for words, _ in vectors.calls("read", "write")]
 
 
-def hold(folder):
+def hold(vectors):
     """Stops where calls.out answers otherwise than the reference."""
-    for (_, text), answer in calls_of(folder, "read"):
+    for (_, text), answer in vectors.calls("read"):
         refusal, made = read(bytes.fromhex(text.strip("-")))
         assert [str(refusal), made.hex()] == answer, (text, answer)
-    for (_, text, size), answer in calls_of(folder, "write"):
+    for (_, text, size), answer in vectors.calls("write"):
         refusal, length, buffer = write(bytes.fromhex(text), int(size))
         assert [str(refusal), str(length), spelled(buffer)] == answer, (text, size, answer)
 
 
-def other_lengths(folder):
-    for b in images_of(folder):
+def other_lengths(vectors):
+    for b in images_of(vectors):
         if read(b)[0] == 0:
             for other in (b + b"\0", b[:-1], b[:18], b[:19]):
                 yield read_case(other)
@@ -112,7 +112,7 @@ def other_lengths(folder):
 
 def largest():
     """256 devices of equal capacity, and 4,096 intervals of 16 points each."""
-    devices = [(256 * i + 255, 1000000) for i in range(256)]
+    devices = [(256 * i + 255, CAPACITY_MOST) for i in range(256)]
     rows = [(16 * i, devices[i % 256][0]) for i in range(4096)]
     return Pool(65536, 4096, devices, rows)
 
@@ -127,17 +127,17 @@ def pools():
         yield from pool_case(pool, False)
 
 
-def damaged(folder):
-    """The first image of calls.in of each small size."""
+def damaged(vectors):
+    """The first image of the vectors of each small size."""
     found = {}
-    for b in images_of(folder):
+    for b in images_of(vectors):
         if read(b)[0] == 0 and len(b) <= 67:
             found.setdefault(len(b), b)
     for b in found.values():
         yield damage_case(b)
 
 
-def cases(folder):
+def cases(vectors):
     """The lines given, with what is printed of each."""
-    hold(folder)
-    return [*other_lengths(folder), *pools(), *damaged(folder)]
+    hold(vectors)
+    return [*other_lengths(vectors), *pools(), *damaged(vectors)]

@@ -1,4 +1,5 @@
-"""Cases for crates/test_calls: lines that are none, numbers and bytes at the limits of a line, and pools given as images.
+"""Cases for crates/test_calls: lines that are none, numbers and bytes at the limits of a line, pools given as images, and histories of
+bytes that are no text.
 
 The head of crates/test_calls/src/main.rt describes the lines. The kept pool is shown before and after the lines that are none.
 """
@@ -107,11 +108,19 @@ def images():
     yield line("single", "-"), line(0, 0, 0, 0, 0)
 
 
+def odd_texts(vectors):
+    """Histories that no file of the repository can hold, and texts that the other program has as files."""
+    texts = [(path.read_bytes(), path.with_suffix(".out").read_bytes()) for path in vectors.odd_histories]
+    texts += [(b"", b"table\n"), (bytes([255]), b"1 1 0 0\ntable\n"), (bytes(range(256)), b"1 1 0 0\n2 1 0 0\ntable\n")]
+    for text, printed in texts:
+        yield line("transcript", text.hex() or "-"), line(0, len(printed), sha1(printed).hexdigest())
+
+
 def last():
     """The last line lacks its end."""
     return line("show").rstrip("\n"), line(0, 0, 0, 0, "-", "-")
 
 
-def cases(folder):
+def cases(vectors):
     """The lines given, with what is printed of each."""
-    return [*bad(), *limits(), *images(), last()]
+    return [*bad(), *limits(), *images(), *odd_texts(vectors), last()]

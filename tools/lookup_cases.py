@@ -1,8 +1,8 @@
-"""Cases for crates/test_calls from a folder of test vectors (calls.in, calls.out): owners, points and copies.
+"""Cases for crates/test_calls from test vectors (vectors.py): owners, points and copies.
 
 The head of crates/test_calls/src/main.rt describes the lines. The cases, all of the kept pool:
 
-- owners around the range and at each start and the point before it, of a pool of each range in calls.in
+- owners around the range and at each start and the point before it, of a pool of each range in the vectors
 - owners and copies in a table of 256 devices and 4,096 intervals
 - points and copies at the limits of their arguments
 - copies whose counters come close to their largest number
@@ -10,11 +10,12 @@ The head of crates/test_calls/src/main.rt describes the lines. The cases, all of
 - lookups of pools that are not valid, each refused with 2
 
 The reference follows document 01, 'Points and copies' and 'Where a call stops', for valid pools. It is held to each owner, point and
-copies line of calls.in.
+copies line of the vectors.
 """
 from hashlib import sha1
 
-from call_pools import INVALID, Pool, calls_of, line, pool_of
+from call_pools import CAPACITY_MOST, INVALID, Pool, line, pool_of
+from image_cases import rounded
 
 LARGEST = 2**64 - 1
 MOST = 2**32 - 1
@@ -79,34 +80,34 @@ def copies_case(pool, *numbers):
     return line("copies", ".", *numbers), line(*copies(pool, *numbers))
 
 
-def lookups_of(folder):
-    """The owner and copies lines of calls.in: the word, the pool, the other numbers, the numbers of the answer."""
-    for (word, image, *numbers), answer in calls_of(folder, "owner", "copies"):
+def lookups_of(vectors):
+    """The owner and copies lines of the vectors: the word, the pool, the other numbers, the numbers of the answer."""
+    for (word, image, *numbers), answer in vectors.calls("owner", "copies"):
         yield word, pool_of(bytes.fromhex(image)), [*map(int, numbers)], [*map(int, answer)]
 
 
-def hold(folder):
+def hold(vectors):
     """Stops where calls.out answers otherwise than the reference."""
-    for word, pool, numbers, answer in lookups_of(folder):
+    for word, pool, numbers, answer in lookups_of(vectors):
         found = owner(pool, *numbers) if word == "owner" else copies(pool, *numbers)
         assert [*found] == answer, (word, numbers, found, answer)
-    for (_, *numbers), answer in calls_of(folder, "point"):
+    for (_, *numbers), answer in vectors.calls("point"):
         found = point(*map(int, numbers))
         assert [*found] == [*map(int, answer)], (numbers, found, answer)
 
 
-def largest_tables(folder):
-    """For each range of calls.in, the pool with the most intervals."""
+def largest_tables(vectors):
+    """For each range of the vectors, the pool with the most intervals."""
     found = {}
-    for _, pool, _, _ in lookups_of(folder):
+    for _, pool, _, _ in lookups_of(vectors):
         if pool.size not in found or found[pool.size].q < pool.q:
             found[pool.size] = pool
     return list(found.values())
 
 
-def without_devices(folder):
-    """For each range of calls.in, the pool without devices."""
-    return [Pool(pool.size, pool.limit, [], []) for pool in largest_tables(folder)]
+def without_devices(vectors):
+    """For each range of the vectors, the pool without devices."""
+    return [Pool(pool.size, pool.limit, [], []) for pool in largest_tables(vectors)]
 
 
 # each device has the same capacity, and an interval of every 256
@@ -118,8 +119,8 @@ WIDE = Pool(
 )
 
 
-def owners(folder):
-    for pool in largest_tables(folder) + without_devices(folder):
+def owners(vectors):
+    for pool in largest_tables(vectors) + without_devices(vectors):
         starts = [start for start, _ in pool.rows]
         around = [start - 1 for start in starts if start]
         yield pool.keep()
@@ -143,16 +144,16 @@ def points():
                 yield point_case(block, probe, size)
 
 
-def several(folder):
+def several(vectors):
     """Pools with 0, 1 and many owners."""
-    tables = largest_tables(folder)
+    tables = largest_tables(vectors)
     single = Pool(100, 16, [(7, 1000)], [(0, 7)])
-    return [without_devices(folder)[0], single, *(pool for pool in tables if pool.q >= 8)]
+    return [without_devices(vectors)[0], single, *(pool for pool in tables if pool.q >= 8)]
 
 
-def limits(folder):
+def limits(vectors):
     """k at its limits, and counters close to their largest number: `made` probes reach it or not."""
-    for pool in several(folder):
+    for pool in several(vectors):
         yield pool.keep()
         for k in COPIES:
             for block in BLOCKS:
@@ -165,8 +166,8 @@ def limits(folder):
 
 def last_probe():
     """Device 2 has few points, at the point of the last probe, beside it on either side, and around it."""
-    size, few = 2**32, 2**32 // 1000001 + 1
-    devices = [(1, 1000000), (2, 1)]
+    size, devices = 2**32, [(1, CAPACITY_MOST), (2, 1)]
+    few = rounded(size, devices)[2]
     for block in BLOCKS:
         last = point(block, 255, size)[1]
         for start in (last, last + 1, last - few + 1, last - few, last - few // 2):
@@ -187,7 +188,7 @@ def invalid():
                 yield line("copies", ".", 1, k, *counters), line(2, *[0] * 9, *counters)
 
 
-def cases(folder):
+def cases(vectors):
     """The lines given, with what is printed of each."""
-    hold(folder)
-    return [*owners(folder), *wide(), *points(), *limits(folder), *last_probe(), *invalid()]
+    hold(vectors)
+    return [*owners(vectors), *wide(), *points(), *limits(vectors), *last_probe(), *invalid()]

@@ -1,17 +1,18 @@
 #!/usr/bin/env python3
-"""Writes crates/test_histories/data, args and stdout from a folder of test vectors (histories/).
+"""Writes crates/test_histories/data, args and stdout from a folder of test vectors (histories/) and our own (vectors.py).
 
 usage: tools/test_histories.py VECTORS
 
 The head of crates/test_histories/src/main.rt describes the files. The cases are every history of the folder with what `slices` must
-print of it, byte for byte, and texts around the border of 65,536 bytes whose transcripts document 01 gives: `too long` alone for one
-byte more. A history that isn't UTF-8 is refused, since all files of the repository are. What the program prints of single lines
-(src/single_lines.rt) stands first.
+print of it, byte for byte (data/vectors), our own (data/own, which stays as it is), and texts around the border of 65,536 bytes whose
+transcripts document 01 gives: `too long` alone for one byte more (data/borders). A history that isn't UTF-8 is left to test_calls.py,
+since all files of the repository are. What the program prints of single lines (src/single_lines.rt) stands first.
 """
 import shutil
 import sys
-from pathlib import Path
 
+sys.dont_write_bytecode = True
+from vectors import OWN_HISTORIES, CRATES, Vectors  # noqa: E402
 
 # What each line of src/single_lines.rt gives: refusal number or 0, moved points, number of moves.
 SINGLE_LINES = """\
@@ -35,27 +36,33 @@ resize 3 3: 0 25 1
 
 
 def borders():
-    """A single line without a line end, and one with it, each text of 65,535 to 65,537 bytes."""
+    """A single line without a line end, one with it, and line ends alone, each text of 65,535 to 65,537 bytes."""
     for size in (65535, 65536, 65537):
-        expected = b"too long\n" if size > 65536 else b"1 1 0 0\ntable\n"
-        yield f"open-{size}", b"x" * size, expected
-        yield f"ended-{size}", b"x" * (size - 1) + b"\n", expected
+        for name, text in (("open", b"x" * size), ("ended", b"x" * (size - 1) + b"\n"), ("empty-lines", b"\n" * size)):
+            lines = text.count(b"\n") or 1
+            refused = "".join(f"{i} 1 0 0\n" for i in range(1, lines + 1)) + "table\n"
+            yield f"{name}-{size}", text, ("too long\n" if size > 65536 else refused).encode()
 
 
 def main():
-    folder = Path(sys.argv[1]) / "histories"
-    cases = [(path.stem, path.read_bytes(), path.with_suffix(".out").read_bytes()) for path in sorted(folder.glob("*.in"))]
-    cases += borders()
-    crate = Path(__file__).resolve().parent.parent / "crates" / "test_histories"
-    data = crate / "data"
-    shutil.rmtree(data, ignore_errors=True)
-    data.mkdir()
-    for name, text, expected in cases:
-        text.decode()
-        (data / f"{name}.in").write_bytes(text)
-        (data / f"{name}.out").write_bytes(expected)
-    (crate / "args").write_text("".join(f"{name}\n" for name, _, _ in cases))
-    (crate / "stdout").write_text(SINGLE_LINES + "".join(f"{name} same\n" for name, _, _ in cases))
+    crate = CRATES / "test_histories"
+    names = []
+
+    def write(folder, cases):
+        shutil.rmtree(crate / "data" / folder, ignore_errors=True)
+        (crate / "data" / folder).mkdir(parents=True)
+        for name, text, expected in cases:
+            (crate / "data" / folder / f"{name}.in").write_bytes(text)
+            (crate / "data" / folder / f"{name}.out").write_bytes(expected)
+            names.append(f"{folder}/{name}")
+
+    vectors = Vectors(sys.argv[1])
+    given = [path for path in vectors.histories if path.parent != OWN_HISTORIES and path not in vectors.odd_histories]
+    write("vectors", ((path.stem, path.read_bytes(), path.with_suffix(".out").read_bytes()) for path in given))
+    names += [f"own/{path.stem}" for path in sorted(OWN_HISTORIES.glob("*.in"))]
+    write("borders", borders())
+    (crate / "args").write_text("".join(f"{name}\n" for name in names))
+    (crate / "stdout").write_text(SINGLE_LINES + "".join(f"{name} same\n" for name in names))
 
 
 main()

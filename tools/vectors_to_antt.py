@@ -1,16 +1,18 @@
 #!/usr/bin/env python3
-"""Writes crates/slicing/proofs/Vectors.antt from a folder of test vectors (calls.in, calls.out, histories/).
+"""Writes crates/slicing/proofs/Vectors.antt from a folder of test vectors (calls.in, calls.out, histories/) and our own (vectors.py).
 
 usage: tools/vectors_to_antt.py VECTORS > crates/slicing/proofs/Vectors.antt
 
-Each add, remove and resize of calls.in becomes a case with its whole answer, and each small history a list of its changes
-with the three numbers printed for each and the table at the end. Lines that are refused for their text (1 and 3) are left out.
+Each add, remove and resize becomes a case with its whole answer, and each history of at most 60 lines a list of its changes with
+the three numbers printed for each and the table at the end. Lines that are refused for their text (1 and 3) are left out.
 """
 import re
 import sys
-from pathlib import Path
 
-HISTORIES = ["clean", "duel", "mixed", "tiny", "wild"] + [f"{i:02}" for i in range(1, 21) if i not in (6, 7, 16, 20)]
+sys.dont_write_bytecode = True
+from vectors import Vectors  # noqa: E402
+
+MOST_LINES = 60
 
 
 def number(b):
@@ -48,15 +50,11 @@ def change(words):
     return f"({' '.join(words)})"
 
 
-def calls(folder):
-    lines = zip((folder / "calls.in").read_text().split("\n"), (folder / "calls.out").read_text().split("\n"))
-    for place, (call, answer) in enumerate(lines, 1):
-        words = call.split()
-        if not words or words[0] not in ("add", "remove", "resize"):
-            continue
-        refusal, moved, count, after, *rows = answer.split()
+def calls(vectors):
+    for place, (words, answer) in enumerate(vectors.calls("add", "remove", "resize"), 1):
+        refusal, moved, count, after, *rows = answer
         yield (
-            f"-- line {place}",
+            f"-- {place}",
             f"called {state(pool(words[1]))} {change([words[0]] + words[2:-1])} {words[-1]}",
             f"seen {refusal} {moved} {count} ({moves(list(map(int, rows)))})\n    {state(pool(after))}",
         )
@@ -67,9 +65,9 @@ def thousandths(text):
     return str(int(whole) * 1000 + int((rest + "000")[:3]))
 
 
-def history(folder, name):
-    given = (folder / f"{name}.in").read_bytes().split(b"\n")
-    printed = (folder / f"{name}.out").read_text().split("\n")
+def history(path):
+    given = path.read_bytes().split(b"\n")
+    printed = path.with_suffix(".out").read_text().split("\n")
     table = [tuple(map(int, row.split())) for row in printed[printed.index("table") + 1 :] if row]
     size, changes, answers = None, [], []
     for line, answer in zip(given, printed[: printed.index("table")]):
@@ -87,8 +85,8 @@ def history(folder, name):
 HEAD = """-- The definitions against the outside: changes made by a reference program that was written from document 01 alone, computed
 -- here and compared. Written by tools/vectors_to_antt.py.
 --
---   direct-calls    the adds, removes and resizes of calls.in, with the whole answer
---   history-NAME    the changes of histories/NAME.in, with what is printed of each and the table at the end
+--   direct-calls    the adds, removes and resizes of calls.in and own.in, with the whole answer
+--   history-NAME    the changes of the history NAME.in, with what is printed of each and the table at the end
 use mathlib.Core.Path.{_≡_, refl}
 use mathlib.Core.List.{List, [], _∷_}
 use Prim.Native.Nat.{ℕ}
@@ -134,10 +132,10 @@ replay s (k ∷ ks) =
 
 
 def main():
-    folder = Path(sys.argv[1])
+    vectors = Vectors(sys.argv[1])
     out = [HEAD]
     opened = "unfolding seenOf called change turns shares largestRemainder"
-    found = list(calls(folder))
+    found = list(calls(vectors))
     out.append("direct-calls :\n    _≡_ {A = List Answer} (")
     for note, call, _ in found:
         out.append(f"    {note}\n    {call}\n    ∷")
@@ -145,15 +143,18 @@ def main():
     for note, _, answer in found:
         out.append(f"    {note}\n    {answer}\n    ∷")
     out.append(f"    [])\n{opened}\ndirect-calls = refl\n")
-    for name in HISTORIES:
-        size, changes, answers, table = history(folder / "histories", name)
+    for path in vectors.histories:
+        if path.read_bytes().count(b"\n") > MOST_LINES:
+            continue
+        size, changes, answers, table = history(path)
         if not changes:
             continue
+        name = re.sub("-+", "-", path.stem)
         prints = "".join(f"    (prints ({a})\n" for a in answers)
         out.append(f"history-{name} : replay (fresh {' '.join(size)})\n    ({listed(changes)})\n    ≡")
         out.append(f"{prints}    (ends ({runs(table)})){')' * len(answers)}")
         out.append(f"unfolding replay change turns shares largestRemainder\nhistory-{name} = refl\n")
-    print("\n".join(out))
+    sys.stdout.write("\n".join(out))
 
 
 main()

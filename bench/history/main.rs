@@ -133,7 +133,7 @@ mod text {
                 3 => format!("add {present} {capacity}"),
                 4 => format!("resize {absent} {capacity}"),
                 5 => format!("resize {present} 1.2345"),
-                6 => format!("resize {present} 1000.001"),
+                6 => format!("resize {present} 16000.001"),
                 7 => format!("remove {absent}"),
                 8 => format!("grow {present} {capacity}"),
                 9 => format!("add {absent} 0.000"),
@@ -278,7 +278,7 @@ mod rust {
 
     fn capacity(word: &[u8]) -> Result<u64, u32> {
         let value = thousandths(word).ok_or(1u32)?;
-        if outside(1000000, value) {
+        if outside(16_000_000, value) {
             return Err(2);
         }
         Ok(value)

@@ -235,7 +235,7 @@ fn first(before: &Opened, id: u64, capacity: u64, next: &mut [u64; ROOM]) -> Pla
 type Arrays<'a> = (&'a [u64; ROOM], &'a mut [u64; ROOM], &'a mut [u64; ROOM]);
 
 fn add(before: &Opened, id: u64, capacity: u64, places: usize, (table, work, next): Arrays) -> Plan {
-    if outside(65535, id) || outside(1000000, capacity) {
+    if outside(65535, id) || outside(16_000_000, capacity) {
         return refused(before, 2);
     }
     let n = before.devices;
@@ -278,7 +278,7 @@ fn remove(before: &Opened, id: u64, places: usize, (table, work, next): Arrays) 
 }
 
 fn resize(before: &Opened, id: u64, capacity: u64, places: usize, (table, work, next): Arrays) -> Plan {
-    if outside(65535, id) || outside(1000000, capacity) {
+    if outside(65535, id) || outside(16_000_000, capacity) {
         return refused(before, 2);
     }
     let n = before.devices;

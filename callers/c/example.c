@@ -1,5 +1,5 @@
 /* Replays a history, lists the devices and the intervals, asks for shares, for owners and for copies, also of the
- * opened pool, adds a device and lists the moves. */
+ * opened pool, adds a device and lists the moves, and adds the largest disk and one that is too large. */
 #include <inttypes.h>
 #include <stdio.h>
 #include <string.h>
@@ -26,6 +26,7 @@ static const char *sentence(uint32_t number)
 {
     switch (number) {
     case 0: return "accepted";
+    case GORVYTS_OUTSIDE_LIMITS: return "a number is outside its limits";
     case GORVYTS_ID_PRESENT: return "the device to add is present";
     case GORVYTS_ID_ABSENT: return "the device is absent";
     case GORVYTS_POINT_PAST_RANGE: return "the point is at or above the range";
@@ -99,5 +100,10 @@ int main(void)
         printf("%" PRIu64 " %" PRIu64 ": %" PRIu64 " to %" PRIu64 "\n",
                list[4 * i], list[4 * i + 1], list[4 * i + 2], list[4 * i + 3]);
     printf("image of %" PRIu64 " bytes\n", answer[0]);
+
+    for (uint64_t capacity = GORVYTS_CAPACITY_MOST; capacity <= GORVYTS_CAPACITY_MOST + 1; capacity++) {
+        number = gorvyts_add(image, length, 4, capacity, next, sizeof next, list, sizeof list / sizeof *list, answer, 3);
+        printf("add 4 of %" PRIu64 ": %" PRIu32 ", %s, %" PRIu64 " points\n", capacity, number, sentence(number), answer[1]);
+    }
     return 0;
 }

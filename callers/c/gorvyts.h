@@ -58,12 +58,13 @@ enum {
 };
 
 /* The bytes of the largest image; the bytes that every transcript fits in; the most moves of a change; the
- * most devices and the most intervals of a pool. */
+ * most devices and the most intervals of a pool; the largest capacity, in thousandths of a TB. */
 #define GORVYTS_IMAGE_MOST 26131
 #define GORVYTS_TRANSCRIPT_ROOM 3145728
 #define GORVYTS_MOVES_MOST 8448
 #define GORVYTS_DEVICES_MOST 256
 #define GORVYTS_INTERVALS_MOST 4096
+#define GORVYTS_CAPACITY_MOST 16000000
 
 /* Whether the bytes are the image of a pool: 0, 14, 15 or 16. */
 uint32_t gorvyts_check(const uint8_t *image, size_t image_size);
@@ -103,8 +104,8 @@ uint32_t gorvyts_intervals(const uint8_t *image, size_t image_size, uint64_t *ro
 
 /* Changes: from the image of a pool to that of the changed pool, in `next`. The moves go to `list`, four
  * numbers each: start, length, old owner, new owner; list_size counts numbers, so that it has
- * list_size / 4 places. Capacities are in thousandths of a TB. answer[0]: the length of the new image,
- * answer[1]: the moved points, answer[2]: the number of moves.
+ * list_size / 4 places. Capacities are in thousandths of a TB, 1 to GORVYTS_CAPACITY_MOST. answer[0]: the
+ * length of the new image, answer[1]: the moved points, answer[2]: the number of moves.
  * Refusals: 14, 15, 16; 2, 4, 6, 8, 9 of an add; 2, 5, 7, 8, 9 of a remove; 2, 5, 8, 9 of a resize; 17. */
 uint32_t gorvyts_add(const uint8_t *image, size_t image_size, uint64_t id, uint64_t capacity,
                      uint8_t *next, size_t next_size, uint64_t *list, size_t list_size, uint64_t *answer, size_t answer_size);

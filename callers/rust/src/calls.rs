@@ -26,5 +26,8 @@ pub const DEVICES_MOST: usize = 256;
 /// The most intervals of a pool.
 pub const INTERVALS_MOST: usize = 4_096;
 
+/// The largest capacity, in thousandths of a TB.
+pub const CAPACITY_MOST: u64 = 16_000_000;
+
 /// The places of the arrays of an opened pool.
 pub const PLACES: usize = 4_096;

@@ -154,7 +154,8 @@ impl Image {
         rows.map(|row| IntervalRow { start: row[0], length: row[1], owner: row[2] }).collect()
     }
 
-    /// The pool with a further device; the capacity is in thousandths of a TB. Refusals: 2, 4, 6, 8.
+    /// The pool with a further device; the capacity is in thousandths of a TB, 1 to [`calls::CAPACITY_MOST`].
+    /// Refusals: 2, 4, 6, 8.
     pub fn add(&self, id: u64, capacity: u64) -> Result<Change, Refusal> {
         Image::changed(|next, list, answer| calls::add(&self.bytes, id, capacity, next, list, answer))
     }
@@ -164,7 +165,8 @@ impl Image {
         Image::changed(|next, list, answer| calls::remove(&self.bytes, id, next, list, answer))
     }
 
-    /// The pool with another capacity of a device, in thousandths of a TB. Refusals: 2, 5, 8.
+    /// The pool with another capacity of a device, in thousandths of a TB, 1 to [`calls::CAPACITY_MOST`].
+    /// Refusals: 2, 5, 8.
     pub fn resize(&self, id: u64, capacity: u64) -> Result<Change, Refusal> {
         Image::changed(|next, list, answer| calls::resize(&self.bytes, id, capacity, next, list, answer))
     }

@@ -3,6 +3,7 @@
 
 mod reference;
 
+use gorvyts::calls::CAPACITY_MOST;
 use gorvyts::{Copies, DeviceRow, Image, IntervalRow, Move, Numbers, Refusal, Tally};
 use reference::history;
 use reference::lookup::point_of_word;
@@ -48,8 +49,8 @@ fn k1_to_k4_capacities() {
     assert_eq!(history::capacity(b"3,2"), Err(1));
     assert_eq!(history::capacity(b"3.2e"), Err(1));
     assert_eq!(history::capacity(b"0.000"), Err(2));
-    assert_eq!(history::capacity(b"1000.000"), Ok(1_000_000));
-    assert_eq!(history::capacity(b"1000.001"), Err(2));
+    assert_eq!(history::capacity(b"16000.000"), Ok(16_000_000));
+    assert_eq!(history::capacity(b"16000.001"), Err(2));
 }
 
 #[test]
@@ -109,6 +110,29 @@ fn the_example_history() {
     assert_eq!(gorvyts::transcript(EXAMPLE), PRINTED.as_bytes());
     assert_eq!(gorvyts::transcript(b""), b"table\n");
     assert_eq!(gorvyts::transcript(&[b'\n'; 65_537]), b"too long\n");
+}
+
+#[test]
+fn capacities_at_the_limit() -> Result<(), Refusal> {
+    assert_eq!(CAPACITY_MOST, pool::CAPACITY_MOST);
+    let largest = Image::fresh(100, 16)?.add(1, CAPACITY_MOST)?.image;
+    let halves = largest.add(2, CAPACITY_MOST)?.image;
+    assert_eq!([1, 2].map(|id| halves.share(id)), [50, 50].map(Ok));
+    for capacity in [0, CAPACITY_MOST + 1, (1 << 32) + 1, u64::MAX] {
+        assert_eq!(largest.add(2, capacity), Err(Refusal::OutsideLimits));
+        assert_eq!(largest.resize(1, capacity), Err(Refusal::OutsideLimits));
+    }
+    for (capacity, expected) in [(1, 0), (16_000_000u32, 0), (0, 16), (16_000_001, 16), (u32::MAX, 16)] {
+        let mut bytes = largest.as_bytes().to_vec();
+        bytes[21..25].copy_from_slice(&capacity.to_be_bytes());
+        assert_eq!(gorvyts::calls::check(&bytes), expected);
+    }
+    for (line, expected) in [("16000.000", "0"), ("16000.001", "2"), ("1000.001", "0")] {
+        let text = format!("range 100 16\nadd 1 {line}\n");
+        let printed = String::from_utf8(gorvyts::transcript(text.as_bytes())).unwrap();
+        assert_eq!(printed.lines().nth(1), Some(format!("2 {expected} 0 0").as_str()));
+    }
+    Ok(())
 }
 
 #[test]

@@ -1,12 +1,12 @@
-//! The reference and the library against test vectors: a folder with `calls.in`, `calls.out` and
-//! `histories/NAME.in`, `NAME.out`, which the environment variable GORVYTS_VECTORS names. Without it
-//! nothing is compared.
+//! The reference and the library against cases of our own, and against test vectors: a folder with
+//! `calls.in`, `calls.out` and `histories/NAME.in`, `NAME.out`, which the environment variable
+//! GORVYTS_VECTORS names. Without it our own alone are compared.
 
 mod reference;
 
 use std::env;
 use std::fs;
-use std::path::PathBuf;
+use std::path::{Path, PathBuf};
 
 use gorvyts::calls::{self, IMAGE_MOST};
 use gorvyts::{Image, Refusal};
@@ -22,11 +22,25 @@ fn folder(test: &str) -> Option<PathBuf> {
     folder
 }
 
+/// A file or folder of the test programs, which hold our own cases.
+fn own(path: &str) -> PathBuf {
+    Path::new(env!("CARGO_MANIFEST_DIR")).join("../../crates").join(path)
+}
+
 #[test]
 fn call_lines() {
     let Some(folder) = folder("calls") else { return };
-    let questions = fs::read_to_string(folder.join("calls.in")).unwrap();
-    let answers = fs::read_to_string(folder.join("calls.out")).unwrap();
+    compare_calls("vectors", &folder.join("calls.in"), &folder.join("calls.out"));
+}
+
+#[test]
+fn own_call_lines() {
+    compare_calls("own", &own("test_calls/own.in"), &own("test_calls/own.out"));
+}
+
+fn compare_calls(whose: &str, questions: &Path, answers: &Path) {
+    let questions = fs::read_to_string(questions).unwrap();
+    let answers = fs::read_to_string(answers).unwrap();
     assert_eq!(questions.lines().count(), answers.lines().count());
     let mut by_library = 0;
     for (question, answer) in questions.lines().zip(answers.lines()) {
@@ -38,7 +52,7 @@ fn call_lines() {
         }
     }
     println!(
-        "vectors, calls: {} lines by the reference, {by_library} by the library",
+        "{whose}, calls: {} lines by the reference, {by_library} by the library",
         answers.lines().count()
     );
 }
@@ -46,8 +60,17 @@ fn call_lines() {
 #[test]
 fn histories() {
     let Some(folder) = folder("histories") else { return };
+    compare_histories("vectors", &folder.join("histories"));
+}
+
+#[test]
+fn own_histories() {
+    compare_histories("own", &own("test_histories/data/own"));
+}
+
+fn compare_histories(whose: &str, folder: &Path) {
     let mut count = 0;
-    for entry in fs::read_dir(folder.join("histories")).unwrap() {
+    for entry in fs::read_dir(folder).unwrap() {
         let question = entry.unwrap().path();
         if question.extension().is_some_and(|extension| extension == "in") {
             let text = fs::read(&question).unwrap();
@@ -59,7 +82,7 @@ fn histories() {
         }
     }
     assert!(count > 0);
-    println!("vectors, histories: {count}");
+    println!("{whose}, histories: {count}");
 }
 
 fn by_reference(words: &[&str]) -> String {

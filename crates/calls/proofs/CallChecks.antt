@@ -5,9 +5,9 @@
 -- Open: open-table (what `raise` asks)
 -- limits: inside-limits
 -- planned-called
--- add: add-id, add-capacity (2), add-four, add-six, add-first, add-settle
--- remove: remove-id (2), remove-five, remove-seven, remove-settle
--- resize: resize-id, resize-capacity (2), resize-five, resize-settle
+-- add: add-two, add-four, add-six, add-first, add-settle
+-- remove: remove-two, remove-five, remove-seven, remove-settle
+-- resize: resize-two, resize-five, resize-settle
 use mathlib.Core.Path.{_≡_, refl, sym, ap, _∙_}
 use mathlib.Core.Bool.{true, false}
 use mathlib.Core.List.{List, [], _∷_}
@@ -17,10 +17,10 @@ use lib.ListN.{length}
 use borrow.Author.Tests.{le-leb, lt-leb}
 use Rattle.slicing.specs.Changes.{State, Change, change, add, remove, resize, accepted, settle, admit}
 use Rattle.slicing.specs.Devices.{Device, device, present, insert, delete, update, Within}
-use Rattle.slicing.specs.Limits.{maxDevices, maxId, maxCapacity, outside}
+use Rattle.slicing.specs.Limits.{maxDevices, maxId, maxCapacity, outside, deviceOutside}
 use Rattle.slicing.specs.Runs.{_of_}
 use Rattle.slicing.specs.SixSteps.{Move}
-use Rattle.slicing.proofs.Changes.{outside-false}
+use Rattle.slicing.proofs.Limits.{or-false, outside-false}
 use Rattle.slicing_core.specs.Rows.{at, deviceRows}
 use Rattle.slicing_core.proofs.Rows.{length-deviceRows}
 use Rattle.packed_runs.specs.Words.{runs, Labelled}
@@ -50,10 +50,11 @@ length-devices o = length-deviceRows (o .ids) (o .capacities) 0 (o .devices)
 
 -- ---- limits
 
-pub inside-limits : (d c : ℕ) → outside maxId d ≡ false → outside maxCapacity c ≡ false → Within 0 (device d c)
-inside-limits d c i j =
-    let known = outside-false maxId d i in
-    let sized = outside-false maxCapacity c j in
+pub inside-limits : (d c : ℕ) → deviceOutside d c ≡ false → Within 0 (device d c)
+inside-limits d c m =
+    let both = or-false (outside maxId d) (outside maxCapacity c) m in
+    let known = outside-false maxId d (both .0) in
+    let sized = outside-false maxCapacity c (both .1) in
     record { above = known .0; known = known .1; some = sized .0; most = sized .1 }
 
 -- ---- the change to the devices afterwards
@@ -79,63 +80,54 @@ planned-called o table j k e = planned-same (λ lent l. ap (λ x. change (stateI
 
 module _ (o : Opened) (table : List ℕ) (d : ℕ) {places : ℕ} {r : Plan} {work next : List ℕ} where
   module _ (c : ℕ) where
-    pub add-id : outside maxId d ≡ true → Refusal o 2 r → PlanOf o table (add d c) places r work next
+    pub add-two : deviceOutside d c ≡ true → Refusal o 2 r → PlanOf o table (add d c) places r work next
     unfolding change
-    add-id i e = planned-refused (stateIn o table) 2 (omega arith) e (λ lent l. rw i)
+    add-two m e = planned-refused (stateIn o table) 2 (omega arith) e (λ lent l. rw m)
 
-    pub resize-id : outside maxId d ≡ true → Refusal o 2 r → PlanOf o table (resize d c) places r work next
+    pub resize-two : deviceOutside d c ≡ true → Refusal o 2 r → PlanOf o table (resize d c) places r work next
     unfolding change
-    resize-id i e = planned-refused (stateIn o table) 2 (omega arith) e (λ lent l. rw i)
+    resize-two m e = planned-refused (stateIn o table) 2 (omega arith) e (λ lent l. rw m)
 
-    module _ (i : outside maxId d ≡ false) where
-      pub add-capacity : outside maxCapacity c ≡ true → Refusal o 2 r → PlanOf o table (add d c) places r work next
+    module _ (m : deviceOutside d c ≡ false) where
+      pub add-four : present d (devicesIn o) ≡ true → Refusal o 4 r → PlanOf o table (add d c) places r work next
       unfolding change
-      add-capacity j e = planned-refused (stateIn o table) 2 (omega arith) e (λ lent l. rw (i, j))
+      add-four g e = planned-refused (stateIn o table) 4 (omega arith) e (λ lent l. rw (m, g))
 
-      pub resize-capacity : outside maxCapacity c ≡ true → Refusal o 2 r → PlanOf o table (resize d c) places r work next
+      pub add-six : present d (devicesIn o) ≡ false → maxDevices ≤ o .devices → Refusal o 6 r → PlanOf o table (add d c) places r work next
       unfolding change
-      resize-capacity j e = planned-refused (stateIn o table) 2 (omega arith) e (λ lent l. rw (i, j))
+      add-six g n e =
+          planned-refused (stateIn o table) 6 (omega arith) e
+          (λ lent l. rw (m, g, le-leb maxDevices (length (devicesIn o)) (omega (arith, length-devices o))))
 
-      module _ (j : outside maxCapacity c ≡ false) where
-        pub add-four : present d (devicesIn o) ≡ true → Refusal o 4 r → PlanOf o table (add d c) places r work next
-        unfolding change
-        add-four g e = planned-refused (stateIn o table) 4 (omega arith) e (λ lent l. rw (i, j, g))
+      pub add-first : o .devices ≡ 0 → Planned (λ lent. accepted (stateIn o table) lent (device d c ∷ []) ((o .range of d) ∷ []) []) places o r work next
+          → PlanOf o table (add d c) places r work next
+      unfolding change
+      add-first z =
+          let none : devicesIn o ≡ [] = ap (deviceRows (o .ids) (o .capacities) 0) z in
+          planned-same (λ lent l. rw (m, none))
 
-        pub add-six : present d (devicesIn o) ≡ false → maxDevices ≤ o .devices → Refusal o 6 r → PlanOf o table (add d c) places r work next
-        unfolding change
-        add-six g n e =
-            planned-refused (stateIn o table) 6 (omega arith) e
-            (λ lent l. rw (i, j, g, le-leb maxDevices (length (devicesIn o)) (omega (arith, length-devices o))))
+      pub add-settle : present d (devicesIn o) ≡ false → o .devices < maxDevices → 1 ≤ o .devices → {e : Opened} {rs : Rows} {rows : List ℕ}
+          → Prepared o table e rs rows (insert d c (devicesIn o)) → Planned (λ lent. settle (stateBy o rs rows) lent (devicesIn e)) places o r work next
+          → PlanOf o table (add d c) places r work next
+      unfolding change
+      add-settle g n some p =
+          planned-same (λ lent l. settle-prepared p lent
+          ∙ sym (rw (m, g, lt-leb maxDevices (length (devicesIn o)) (omega (arith, length-devices o)))
+          (admit-some (stateIn o table) lent d c (devicesIn o) (omega (arith, length-devices o)))))
 
-        pub add-first : o .devices ≡ 0 → Planned (λ lent. accepted (stateIn o table) lent (device d c ∷ []) ((o .range of d) ∷ []) []) places o r work next
-            → PlanOf o table (add d c) places r work next
-        unfolding change
-        add-first z =
-            let none : devicesIn o ≡ [] = ap (deviceRows (o .ids) (o .capacities) 0) z in
-            planned-same (λ lent l. rw (i, j, none))
+      pub resize-five : present d (devicesIn o) ≡ false → Refusal o 5 r → PlanOf o table (resize d c) places r work next
+      unfolding change
+      resize-five g e = planned-refused (stateIn o table) 5 (omega arith) e (λ lent l. rw (m, g))
 
-        pub add-settle : present d (devicesIn o) ≡ false → o .devices < maxDevices → 1 ≤ o .devices → {e : Opened} {rs : Rows} {rows : List ℕ}
-            → Prepared o table e rs rows (insert d c (devicesIn o)) → Planned (λ lent. settle (stateBy o rs rows) lent (devicesIn e)) places o r work next
-            → PlanOf o table (add d c) places r work next
-        unfolding change
-        add-settle g n some p =
-            planned-same (λ lent l. settle-prepared p lent
-            ∙ sym (rw (i, j, g, lt-leb maxDevices (length (devicesIn o)) (omega (arith, length-devices o)))
-            (admit-some (stateIn o table) lent d c (devicesIn o) (omega (arith, length-devices o)))))
+      pub resize-settle : present d (devicesIn o) ≡ true → {e : Opened} {rs : Rows} {rows : List ℕ}
+          → Prepared o table e rs rows (update d c (devicesIn o)) → Planned (λ lent. settle (stateBy o rs rows) lent (devicesIn e)) places o r work next
+          → PlanOf o table (resize d c) places r work next
+      unfolding change
+      resize-settle g p = planned-same (λ lent l. settle-prepared p lent ∙ sym (rw (m, g)))
 
-        pub resize-five : present d (devicesIn o) ≡ false → Refusal o 5 r → PlanOf o table (resize d c) places r work next
-        unfolding change
-        resize-five g e = planned-refused (stateIn o table) 5 (omega arith) e (λ lent l. rw (i, j, g))
-
-        pub resize-settle : present d (devicesIn o) ≡ true → {e : Opened} {rs : Rows} {rows : List ℕ}
-            → Prepared o table e rs rows (update d c (devicesIn o)) → Planned (λ lent. settle (stateBy o rs rows) lent (devicesIn e)) places o r work next
-            → PlanOf o table (resize d c) places r work next
-        unfolding change
-        resize-settle g p = planned-same (λ lent l. settle-prepared p lent ∙ sym (rw (i, j, g)))
-
-  pub remove-id : outside maxId d ≡ true → Refusal o 2 r → PlanOf o table (remove d) places r work next
+  pub remove-two : outside maxId d ≡ true → Refusal o 2 r → PlanOf o table (remove d) places r work next
   unfolding change
-  remove-id i e = planned-refused (stateIn o table) 2 (omega arith) e (λ lent l. rw i)
+  remove-two i e = planned-refused (stateIn o table) 2 (omega arith) e (λ lent l. rw i)
 
   module _ (i : outside maxId d ≡ false) where
     pub remove-five : present d (devicesIn o) ≡ false → Refusal o 5 r → PlanOf o table (remove d) places r work next

@@ -1,7 +1,6 @@
 // The three calls for a change, planned on an opened pool.
 use opened::Opened;
 use opened::devices::find;
-use opened::devices::outside;
 use opened::devices::shared;
 use packed_runs::ROOM;
 use plans::Plan;
@@ -12,12 +11,13 @@ use plans::settling::refused;
 use plans::settling::settle;
 use slicing::ABSENT;
 use slicing::FULL;
-use slicing::MAX_CAPACITY;
 use slicing::MAX_DEVICES;
 use slicing::MAX_ID;
 use slicing::ONLY_DEVICE;
 use slicing::OUTSIDE;
 use slicing::PRESENT;
+use slicing::device_outside;
+use slicing::outside;
 use slicing_core::devices::delete_row;
 use slicing_core::devices::insert_row;
 ghost use mathlib.Core.Path.{_≡_};
@@ -53,10 +53,7 @@ fn add(
     ensures { λ r. ⌜ Planned (λ lent. Changes.change (stateIn before (now (table .entry))) lent (Changes.add id capacity)) places before r (now (work .exit)) (now (next .exit)) ⌝ }
     ensures { λ r. ⌜ (length (now (work .exit)) ≡ room) × (length (now (next .exit)) ≡ room) ⌝ }
 {
-    if outside(MAX_ID, id) {
-        return refused(before, OUTSIDE);
-    }
-    if outside(MAX_CAPACITY, capacity) {
+    if device_outside(id, capacity) {
         return refused(before, OUTSIDE);
     }
     let n = before.devices;
@@ -146,10 +143,7 @@ fn resize(
     ensures { λ r. ⌜ Planned (λ lent. Changes.change (stateIn before (now (table .entry))) lent (Changes.resize id capacity)) places before r (now (work .exit)) (now (next .exit)) ⌝ }
     ensures { λ r. ⌜ (length (now (work .exit)) ≡ room) × (length (now (next .exit)) ≡ room) ⌝ }
 {
-    if outside(MAX_ID, id) {
-        return refused(before, OUTSIDE);
-    }
-    if outside(MAX_CAPACITY, capacity) {
+    if device_outside(id, capacity) {
         return refused(before, OUTSIDE);
     }
     let n = before.devices;

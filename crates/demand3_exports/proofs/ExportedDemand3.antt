@@ -19,7 +19,7 @@ use Rattle.slicing.specs.Claims.{written}
 use Rattle.slicing.specs.Ledger.{Ledger, blank}
 use Rattle.slicing.specs.Limits.{maxRange, maxLimit, outside}
 use Rattle.slicing.specs.Validity.{Valid}
-use Rattle.slicing.proofs.Changes.{outside-false, or-false}
+use Rattle.slicing.proofs.Limits.{or-false, outside-false}
 use Rattle.slicing.proofs.Claims.{valid-fresh}
 use Rattle.slicing_core.specs.Rows.{at}
 use Rattle.pools.specs.Pools.{poolOf}

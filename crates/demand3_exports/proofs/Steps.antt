@@ -6,7 +6,7 @@
 --   changed-step       an outcome of the rules on the image's state is what the offered change promises on the image's rows
 --   refused-answer, accepted-answer       of a refused call and of an accepted one
 use mathlib.Core.Path.{_≡_, refl, sym, ap, ap₂, _∙_, subst}
-use mathlib.Core.Bool.{Bool, true, false, not, _||_}
+use mathlib.Core.Bool.{Bool, true, false, not}
 use mathlib.Core.List.{List, [], _∷_, _++_, map, map-append}
 use Prim.Native.Nat.{ℕ, zero, suc, _*_, _≤_}
 use native.Mathlib.Omega.{arith}
@@ -15,7 +15,7 @@ use lib.ListN.{length, take, drop}
 use Rattle.slicing.specs.Changes.{State, Change, add, remove, resize, Outcome, stop, settledBy, settle, admit, change}
 use Rattle.slicing.specs.Claims.{written}
 use Rattle.slicing.specs.Devices.{Device, present, insert, delete, update}
-use Rattle.slicing.specs.Limits.{maxDevices, maxId, maxCapacity, outside}
+use Rattle.slicing.specs.Limits.{maxDevices, maxId, outside, deviceOutside}
 use Rattle.slicing.specs.Runs.{Run}
 use Rattle.slicing.specs.ShareRule.{shares}
 use Rattle.slicing.specs.SixSteps as Six
@@ -56,7 +56,7 @@ module _ (s : State) (lent : List Six.Move) where
   pub number-change : (k : Change) → change s lent k .number ≤ 9
   unfolding change
   number-change (add d c) =
-      number-stop (outside maxId d || outside maxCapacity c) 2 _ (omega arith)
+      number-stop (deviceOutside d c) 2 _ (omega arith)
       (number-stop (present d (s .devices)) 4 _ (omega arith)
       (number-stop (leb maxDevices (length (s .devices))) 6 _ (omega arith) (number-admit d c (s .devices))))
   number-change (remove d) =
@@ -64,7 +64,7 @@ module _ (s : State) (lent : List Six.Move) where
       (number-stop (not (present d (s .devices))) 5 _ (omega arith)
       (number-stop (leb (length (s .devices)) 1) 7 _ (omega arith) (number-settle (delete d (s .devices)))))
   number-change (resize d c) =
-      number-stop (outside maxId d || outside maxCapacity c) 2 _ (omega arith)
+      number-stop (deviceOutside d c) 2 _ (omega arith)
       (number-stop (not (present d (s .devices))) 5 _ (omega arith) (number-settle (update d c (s .devices))))
 
 -- ---- lists of moves

@@ -6,7 +6,7 @@ ghost use Rattle.image_changes.specs.Promises.{Changed};
 
 // Adds a device; the new image goes to `next`, the moves, four numbers each, to `list`; answer: the length
 // of the new image, the moved points, the number of moves. 14 to 16 as of `gorvyts_check`; 2 for an id
-// outside 1 to 65,535 or a capacity outside 1 to 1,000,000; 4 where the id is present; 6 where 256
+// outside 1 to 65,535 or a capacity outside 1 to 16,000,000; 4 where the id is present; 6 where 256
 // devices are; 8 where the new table has over M intervals; 9 where the list has too few places; 17
 // where the new image does not fit.
 #[no_mangle]

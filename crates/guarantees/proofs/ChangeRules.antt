@@ -25,25 +25,25 @@ abbrev pub turnsTo : State → List Device → List (Run Turn)
 turnsTo s es = turns (s .table) (shares (s .range) (s .devices)) (shares (s .range) es)
 
 pub data Settles (s : State) : Change → List Device → Type 0 where
-  adds : {d c : ℕ} → Inside 65535 d → Inside 1000000 c → present d (s .devices) ≡ false → 1 ≤ length (s .devices) → length (s .devices) < 256
+  adds : {d c : ℕ} → Inside 65535 d → Inside 16000000 c → present d (s .devices) ≡ false → 1 ≤ length (s .devices) → length (s .devices) < 256
       → Settles s (add d c) (insert d c (s .devices))
   removes : {d : ℕ} → Inside 65535 d → present d (s .devices) ≡ true → 1 < length (s .devices) → Settles s (remove d) (delete d (s .devices))
-  resizes : {d c : ℕ} → Inside 65535 d → Inside 1000000 c → present d (s .devices) ≡ true → Settles s (resize d c) (update d c (s .devices))
+  resizes : {d c : ℕ} → Inside 65535 d → Inside 16000000 c → present d (s .devices) ≡ true → Settles s (resize d c) (update d c (s .devices))
 
 pub data Stops (s : State) (lent : List Move) : Change → ℕ → Type 0 where
   -- a number outside its limits
-  add-two : {d c : ℕ} → (Inside 65535 d → Inside 1000000 c → ⊥) → Stops s lent (add d c) 2
+  add-two : {d c : ℕ} → (Inside 65535 d → Inside 16000000 c → ⊥) → Stops s lent (add d c) 2
   remove-two : {d : ℕ} → (Inside 65535 d → ⊥) → Stops s lent (remove d) 2
-  resize-two : {d c : ℕ} → (Inside 65535 d → Inside 1000000 c → ⊥) → Stops s lent (resize d c) 2
+  resize-two : {d c : ℕ} → (Inside 65535 d → Inside 16000000 c → ⊥) → Stops s lent (resize d c) 2
   -- id present
-  add-four : {d c : ℕ} → Inside 65535 d → Inside 1000000 c → present d (s .devices) ≡ true → Stops s lent (add d c) 4
+  add-four : {d c : ℕ} → Inside 65535 d → Inside 16000000 c → present d (s .devices) ≡ true → Stops s lent (add d c) 4
   -- id absent
   remove-five : {d : ℕ} → Inside 65535 d → present d (s .devices) ≡ false → Stops s lent (remove d) 5
-  resize-five : {d c : ℕ} → Inside 65535 d → Inside 1000000 c → present d (s .devices) ≡ false → Stops s lent (resize d c) 5
+  resize-five : {d c : ℕ} → Inside 65535 d → Inside 16000000 c → present d (s .devices) ≡ false → Stops s lent (resize d c) 5
   -- the only device
   remove-seven : {d : ℕ} → Inside 65535 d → present d (s .devices) ≡ true → length (s .devices) ≤ 1 → Stops s lent (remove d) 7
   -- 256 present
-  add-six : {d c : ℕ} → Inside 65535 d → Inside 1000000 c → present d (s .devices) ≡ false → 256 ≤ length (s .devices) → Stops s lent (add d c) 6
+  add-six : {d c : ℕ} → Inside 65535 d → Inside 16000000 c → present d (s .devices) ≡ false → 256 ≤ length (s .devices) → Stops s lent (add d c) 6
   -- the joined new table has over M intervals
   eight : {k : Change} {es : List Device} → Settles s k es → s .limit < length (newTable (turnsTo s es)) → Stops s lent k 8
   -- it has not, and there are more moves than places in the lent list
@@ -52,7 +52,7 @@ pub data Stops (s : State) (lent : List Move) : Change → ℕ → Type 0 where
 
 pub data Passes (s : State) (lent : List Move) : Change → List Device → List (Run ℕ) → List Move → Type 0 where
   -- 'An add to a pool without devices gives its device the whole range, with no moves and a moved count of 0.'
-  first : {d c : ℕ} → Inside 65535 d → Inside 1000000 c → length (s .devices) ≡ 0
+  first : {d c : ℕ} → Inside 65535 d → Inside 16000000 c → length (s .devices) ≡ 0
       → Passes s lent (add d c) (device d c ∷ []) ((s .range of d) ∷ []) []
   settled : {k : Change} {es : List Device} → Settles s k es → length (newTable (turnsTo s es)) ≤ s .limit
       → length (moves (turnsTo s es)) ≤ length lent → Passes s lent k es (newTable (turnsTo s es)) (moves (turnsTo s es))
@@ -65,20 +65,20 @@ module _ (s : State) (lent : List Move) where
   settles : {k : Change} {es : List Device} → Settles s k es → change s lent k ≡ settle s lent es
   unfolding change
   settles (adds {d = d} {c = c} i j h l m) =
-      rw (two-inside 65535 d 1000000 c i j, h, lt-leb 256 (length (s .devices)) m) (admit-some d c (s .devices) l)
+      rw (two-inside 65535 d 16000000 c i j, h, lt-leb 256 (length (s .devices)) m) (admit-some d c (s .devices) l)
   settles (removes {d = d} i h l) = rw (inside-false 65535 d i, h, lt-leb (length (s .devices)) 1 l)
-  settles (resizes {d = d} {c = c} i j h) = rw (two-inside 65535 d 1000000 c i j, h)
+  settles (resizes {d = d} {c = c} i j h) = rw (two-inside 65535 d 16000000 c i j, h)
 
   pub stops : {k : Change} {n : ℕ} → Stops s lent k n → change s lent k ≡ refused s lent n
   unfolding change
-  stops (add-two {d = d} {c = c} h) = rw (two-outside 65535 d 1000000 c h)
+  stops (add-two {d = d} {c = c} h) = rw (two-outside 65535 d 16000000 c h)
   stops (remove-two {d = d} h) = rw (inside-true 65535 d h)
-  stops (resize-two {d = d} {c = c} h) = rw (two-outside 65535 d 1000000 c h)
-  stops (add-four {d = d} {c = c} i j h) = rw (two-inside 65535 d 1000000 c i j, h)
+  stops (resize-two {d = d} {c = c} h) = rw (two-outside 65535 d 16000000 c h)
+  stops (add-four {d = d} {c = c} i j h) = rw (two-inside 65535 d 16000000 c i j, h)
   stops (remove-five {d = d} i h) = rw (inside-false 65535 d i, h)
-  stops (resize-five {d = d} {c = c} i j h) = rw (two-inside 65535 d 1000000 c i j, h)
+  stops (resize-five {d = d} {c = c} i j h) = rw (two-inside 65535 d 16000000 c i j, h)
   stops (remove-seven {d = d} i h l) = rw (inside-false 65535 d i, h, le-leb (length (s .devices)) 1 l)
-  stops (add-six {d = d} {c = c} i j h l) = rw (two-inside 65535 d 1000000 c i j, h, le-leb 256 (length (s .devices)) l)
+  stops (add-six {d = d} {c = c} i j h l) = rw (two-inside 65535 d 16000000 c i j, h, le-leb 256 (length (s .devices)) l)
   stops (eight {es = es} k l) = settles k ∙ rw (lt-ltb (s .limit) (length (newTable (turnsTo s es))) l)
   stops (nine {es = es} k l m) =
       settles k ∙ rw (le-ltb (s .limit) (length (newTable (turnsTo s es))) l, lt-ltb (length lent) (length (moves (turnsTo s es))) m)
@@ -92,7 +92,7 @@ module _ (s : State) (lent : List Move) where
   pub passes : {k : Change} {es : List Device} {table : List (Run ℕ)} {ms : List Move} → Passes s lent k es table ms
       → change s lent k ≡ accepted s lent es table ms
   unfolding change
-  passes (first {d = d} {c = c} i j l) = rw (two-inside 65535 d 1000000 c i j) (admit-none d c (s .devices) l)
+  passes (first {d = d} {c = c} i j l) = rw (two-inside 65535 d 16000000 c i j) (admit-none d c (s .devices) l)
   passes (settled {es = es} k l m) =
       settles k ∙ rw (le-ltb (s .limit) (length (newTable (turnsTo s es))) l, le-ltb (length lent) (length (moves (turnsTo s es))) m)
 
@@ -114,7 +114,7 @@ module _ (s : State) (lent : List Move) where
       go false e false f =
           passed (settled h (ltb-false (s .limit) (length (newTable (turnsTo s es))) e) (ltb-false (length lent) (length (moves (turnsTo s es))) f))
 
-  module _ (d c : ℕ) (i : Inside 65535 d) (j : Inside 1000000 c) where
+  module _ (d c : ℕ) (i : Inside 65535 d) (j : Inside 16000000 c) where
     known-add : (t : Bool) → leb (length (s .devices)) 0 ≡ t → (u : Bool) → present d (s .devices) ≡ u → (w : Bool) → leb 256 (length (s .devices)) ≡ w
         → Known s lent (add d c)
     known-add true e u f w g = passed (first i j (omega (arith, leb-true (length (s .devices)) 0 e)))
@@ -134,9 +134,9 @@ module _ (s : State) (lent : List Move) where
   known-remove d i true f false g = known-settles (remove d) _ (removes i f (leb-false (length (s .devices)) 1 g))
 
   pub change-known : (k : Change) → Known s lent k
-  change-known (add d c) = go (two-decided 65535 d 1000000 c)
+  change-known (add d c) = go (two-decided 65535 d 16000000 c)
     where
-      go : Decided (Inside 65535 d × Inside 1000000 c) → Known s lent (add d c)
+      go : Decided (Inside 65535 d × Inside 16000000 c) → Known s lent (add d c)
       go (without h) = stopped (add-two (λ i j. h (i, j)))
       go (within h) =
           known-add d c (h .0) (h .1) (leb (length (s .devices)) 0) refl (present d (s .devices)) refl (leb 256 (length (s .devices))) refl
@@ -145,8 +145,8 @@ module _ (s : State) (lent : List Move) where
       go : Decided (Inside 65535 d) → Known s lent (remove d)
       go (without h) = stopped (remove-two h)
       go (within h) = known-remove d h (present d (s .devices)) refl (leb (length (s .devices)) 1) refl
-  change-known (resize d c) = go (two-decided 65535 d 1000000 c)
+  change-known (resize d c) = go (two-decided 65535 d 16000000 c)
     where
-      go : Decided (Inside 65535 d × Inside 1000000 c) → Known s lent (resize d c)
+      go : Decided (Inside 65535 d × Inside 16000000 c) → Known s lent (resize d c)
       go (without h) = stopped (resize-two (λ i j. h (i, j)))
       go (within h) = known-resize d c (h .0) (h .1) (present d (s .devices)) refl

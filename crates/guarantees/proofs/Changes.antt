@@ -95,11 +95,11 @@ module _ (p : Pool) (lent : List Move) (r : ChangeAnswer) (after : List Move) wh
 
   module _ (v : ValidPool p) where
     module _ (d c : ℕ) (k : Changed p lent (add d c) r after) where
-      -- an id outside 1 to 65,535 or a capacity outside 1 to 1,000,000
-      pub add-outside : (Inside 65535 d → Inside 1000000 c → ⊥) → Refuses 2 p lent r after
+      -- an id outside 1 to 65,535 or a capacity outside 1 to 16,000,000
+      pub add-outside : (Inside 65535 d → Inside 16000000 c → ⊥) → Refuses 2 p lent r after
       add-outside h = change-stops v k (Rule.add-two h)
 
-      module _ (i : Inside 65535 d) (j : Inside 1000000 c) where
+      module _ (i : Inside 65535 d) (j : Inside 16000000 c) where
         -- the pool lists the id
         pub add-present : Listed p d → Refuses 4 p lent r after
         add-present h = change-stops v k (Rule.add-four i j (listed-present p d h))
@@ -160,11 +160,11 @@ module _ (p : Pool) (lent : List Move) (r : ChangeAnswer) (after : List Move) wh
             remove-accepted l m = change-settled v k removes l m
 
     module _ (d c : ℕ) (k : Changed p lent (resize d c) r after) where
-      -- an id outside 1 to 65,535 or a capacity outside 1 to 1,000,000
-      pub resize-outside : (Inside 65535 d → Inside 1000000 c → ⊥) → Refuses 2 p lent r after
+      -- an id outside 1 to 65,535 or a capacity outside 1 to 16,000,000
+      pub resize-outside : (Inside 65535 d → Inside 16000000 c → ⊥) → Refuses 2 p lent r after
       resize-outside h = change-stops v k (Rule.resize-two h)
 
-      module _ (i : Inside 65535 d) (j : Inside 1000000 c) where
+      module _ (i : Inside 65535 d) (j : Inside 16000000 c) where
         -- the pool does not list the id
         pub resize-absent : (Listed p d → ⊥) → Refuses 5 p lent r after
         resize-absent h = change-stops v k (Rule.resize-five i j (unlisted-absent p d h))

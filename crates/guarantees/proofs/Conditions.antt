@@ -11,11 +11,10 @@ use mathlib.Core.Bool.{Bool, true, false, _||_, true≢false}
 use Prim.Native.Nat.{ℕ, _≤_}
 use native.Mathlib.Omega.{arith}
 use lib.ListN.{length}
-use borrow.Author.Tests.{le-ltb}
 use Rattle.slicing.specs.Devices.{present}
 use Rattle.slicing.specs.Limits.{outside}
 use Rattle.slicing.specs.Replies.{Reply}
-use Rattle.slicing.proofs.Changes.{or-false, outside-false}
+use Rattle.slicing.proofs.Limits.{or-false, outside-false, within-limits}
 use Rattle.slicing_core.proofs.DeviceRows.{position-present, present-without}
 use Rattle.slicing_core.proofs.Rows.{length-deviceRows}
 use Rattle.pools.specs.Pools.{stateOf}
@@ -30,7 +29,7 @@ not-true true h = refl
 not-true false h = absurd (h refl)
 
 pub inside-false : (k x : ℕ) → Inside k x → outside k x ≡ false
-inside-false k x i = rw (le-ltb x 1 (i .0), le-ltb k x (i .1))
+inside-false k x i = within-limits k x (i .0) (i .1)
 
 pub inside-true : (k x : ℕ) → (Inside k x → ⊥) → outside k x ≡ true
 inside-true k x h = not-true (outside k x) (λ e. h (outside-false k x e))

@@ -52,12 +52,12 @@ module _ (w : List ℕ) (r : CapacityAnswer) (k : CapacityRead w r) where
   capacity-shapeless e = (k .answer ∙ rw e, says (k .reply ∙ rw e))
 
   module _ (c : ℕ) (e : capacityIn w ≡ Word.Number c) where
-    -- outside 1 to 1,000,000 thousandths of a TB
-    pub capacity-outside : (Inside 1000000 c → ⊥) → (r ≡ Capacity.Refused 2) × Says (capacityReply r) 2 0
-    capacity-outside h = let f = inside-true 1000000 c h in (k .answer ∙ rw (e, f), says (k .reply ∙ rw (e, f)))
+    -- outside 1 to 16,000,000 thousandths of a TB
+    pub capacity-outside : (Inside 16000000 c → ⊥) → (r ≡ Capacity.Refused 2) × Says (capacityReply r) 2 0
+    capacity-outside h = let f = inside-true 16000000 c h in (k .answer ∙ rw (e, f), says (k .reply ∙ rw (e, f)))
 
-    pub capacity-known : Inside 1000000 c → (r ≡ Capacity.Thousandths c) × Says (capacityReply r) 0 c
-    capacity-known i = let f = inside-false 1000000 c i in (k .answer ∙ rw (e, f), says (k .reply ∙ rw (e, f)))
+    pub capacity-known : Inside 16000000 c → (r ≡ Capacity.Thousandths c) × Says (capacityReply r) 0 c
+    capacity-known i = let f = inside-false 16000000 c i in (k .answer ∙ rw (e, f), says (k .reply ∙ rw (e, f)))
 
 -- ---- lines
 

@@ -1,21 +1,25 @@
 -- The outcomes of `images::read` and `write`.
 --
--- read: read-short (14, under 19 bytes), read-unmarked (14, another mark), read-versioned (15), read-faulty (16), read-image
+-- read: read-short (14, under 19 bytes), read-unmarked (14, another mark), read-versioned (15), read-faulty (16), read-capacity (16, a
+--   capacity outside its limits: capacity-faulty), read-image
 -- write: write-invalid (2), write-short (17), write-room
 use mathlib.Core.Path.{_≡_, sym, ap, _∙_}
 use mathlib.Core.Bool.{true, false, false≢true, true≢false}
 use mathlib.Core.List.{List, _++_}
-use Prim.Native.Nat.{ℕ, _≤_, _<_}
+use Prim.Native.Nat.{ℕ, zero, suc, _+_, _*_, _≤_, _<_}
+use native.Mathlib.Omega.{arith}
 use lib.ListN.{length, drop}
 use borrow.Author.Tests.{lt-ltb, le-ltb, le-leb, lt-leb, eq-eqb, ne-eqb}
+use Rattle.slicing_core.specs.Rows.{at}
+use Rattle.slicing_core.proofs.DeviceRows.{within-rising}
 use Rattle.pools.specs.Pools.{stateOf, poolOf, ValidPool}
 use Rattle.pools.specs.declared.Pool.{Pool}
 use Rattle.pools.specs.declared.PoolAnswer.{PoolAnswer}
-use Rattle.image_numbers.specs.Format.{imageOf, numberAt, versionIn, stateIn, marked, Sound}
+use Rattle.image_numbers.specs.Format.{imageOf, numberAt, versionIn, devicesIn, column, idsIn, capacitiesIn, stateIn, marked, Sound}
 use Rattle.images.specs.Promises.{refusal, ReadAs, unmarked, versioned, faulty, accepted, writeReply, WrittenAs}
 use Rattle.images.specs.declared.WriteAnswer.{WriteAnswer}
 use Rattle.images.specs.declared.WriteAnswer.the-variants.{Written, Refused}
-use Rattle.guarantees.proofs.Conditions.{Says, says}
+use Rattle.guarantees.proofs.Conditions.{Inside, Says, says}
 use Rattle.guarantees.proofs.Pools.{WithoutDevices}
 
 -- the first three bytes are RSL, 52 53 4C hexadecimal
@@ -30,6 +34,21 @@ marked-other xs l h = rw (le-leb 19 (length xs) l, ne-eqb (numberAt xs 0 3) 0x52
 
 pub marked-mark : (xs : List ℕ) → 19 ≤ length xs → Mark xs → marked xs ≡ true
 marked-mark xs l h = rw (le-leb 19 (length xs) l, eq-eqb (numberAt xs 0 3) 0x52534c h)
+
+at-column : (xs : List ℕ) (k j n i : ℕ) → i < n → at (column xs k j n) i ≡ numberAt xs (j + 6 * i) k
+at-column xs k j zero i l = absurd (omega arith)
+at-column xs k j (suc n) zero l = let e : j ≡ j + 0 = omega arith in ap (λ p. numberAt xs p k) e
+at-column xs k j (suc n) (suc i) l =
+    let e : j + 6 + 6 * i ≡ j + 6 * suc i = omega arith in
+    at-column xs k (j + 6) n i (omega arith) ∙ ap (λ p. numberAt xs p k) e
+
+-- device row i begins at byte 19 + 6i, and its capacity stands in four bytes behind the id
+pub capacity-faulty : (xs : List ℕ) (i : ℕ) → i < devicesIn xs → (Inside 16000000 (numberAt xs (21 + 6 * i) 4) → ⊥) → Sound xs → ⊥
+unfolding stateIn
+capacity-faulty xs i l h s =
+    let w = within-rising (idsIn xs) (capacitiesIn xs) (devicesIn xs) (s .valid .rising) i l in
+    let e = at-column xs 4 21 (devicesIn xs) i l in
+    h (rw (← e) (w .some), rw (← e) (w .most))
 
 -- a number, and a fresh pool with R = 1 and M = 1
 abbrev pub Unread : ℕ → PoolAnswer → Type 0
@@ -80,6 +99,10 @@ module _ (xs : List ℕ) (r : PoolAnswer) where
           -- another length than 19 + 6n + 6q, or against the rules of pool and shares
           pub read-faulty : (Sound xs → ⊥) → Unread 16 r
           read-faulty h = sixteen k (marked-mark xs l m) v h
+
+          -- a capacity outside 1 to 16,000,000
+          pub read-capacity : (i : ℕ) → i < devicesIn xs → (Inside 16000000 (numberAt xs (21 + 6 * i) 4) → ⊥) → Unread 16 r
+          read-capacity i d h = read-faulty (capacity-faulty xs i d h)
 
           pub read-image : Sound xs → (r .refusal ≡ 0) × (r .pool ≡ poolOf (stateIn xs))
           read-image h = pooled k (marked-mark xs l m) v h

@@ -40,19 +40,19 @@ pub data Shapes (xs : List ℕ) : LineAnswer → Type 0 where
   range-line : {a b : List ℕ} {R M : ℕ} → words xs ≡ rangeBytes ∷ a ∷ b ∷ [] → numberIn a ≡ Word.Number R → numberIn b ≡ Word.Number M
       → Inside 4294967296 R → Inside 4096 M → Shapes xs (Range R M)
   add-line : {a b : List ℕ} {d c : ℕ} → words xs ≡ addBytes ∷ a ∷ b ∷ [] → numberIn a ≡ Word.Number d → capacityIn b ≡ Word.Number c
-      → Inside 65535 d → Inside 1000000 c → Shapes xs (Add d c)
+      → Inside 65535 d → Inside 16000000 c → Shapes xs (Add d c)
   remove-line : {a : List ℕ} {d : ℕ} → words xs ≡ removeBytes ∷ a ∷ [] → numberIn a ≡ Word.Number d → Inside 65535 d → Shapes xs (Remove d)
   resize-line : {a b : List ℕ} {d c : ℕ} → words xs ≡ resizeBytes ∷ a ∷ b ∷ [] → numberIn a ≡ Word.Number d → capacityIn b ≡ Word.Number c
-      → Inside 65535 d → Inside 1000000 c → Shapes xs (Resize d c)
+      → Inside 65535 d → Inside 16000000 c → Shapes xs (Resize d c)
 
 pub data Far (xs : List ℕ) : Type 0 where
   range-far : {a b : List ℕ} {R M : ℕ} → words xs ≡ rangeBytes ∷ a ∷ b ∷ [] → numberIn a ≡ Word.Number R → numberIn b ≡ Word.Number M
       → (Inside 4294967296 R → Inside 4096 M → ⊥) → Far xs
   add-far : {a b : List ℕ} {d c : ℕ} → words xs ≡ addBytes ∷ a ∷ b ∷ [] → numberIn a ≡ Word.Number d → capacityIn b ≡ Word.Number c
-      → (Inside 65535 d → Inside 1000000 c → ⊥) → Far xs
+      → (Inside 65535 d → Inside 16000000 c → ⊥) → Far xs
   remove-far : {a : List ℕ} {d : ℕ} → words xs ≡ removeBytes ∷ a ∷ [] → numberIn a ≡ Word.Number d → (Inside 65535 d → ⊥) → Far xs
   resize-far : {a b : List ℕ} {d c : ℕ} → words xs ≡ resizeBytes ∷ a ∷ b ∷ [] → numberIn a ≡ Word.Number d → capacityIn b ≡ Word.Number c
-      → (Inside 65535 d → Inside 1000000 c → ⊥) → Far xs
+      → (Inside 65535 d → Inside 16000000 c → ⊥) → Far xs
 
 pub data Shapeless (xs : List ℕ) : Type 0 where
   -- no word, one, or more than three
@@ -109,16 +109,16 @@ module _ (xs : List ℕ) where
   pub shaped : {l : LineAnswer} → Shapes xs l → lineIn xs ≡ l
   unfolding lineIn
   shaped (range-line {R = R} {M = M} w a b i j) = rw (w, a, b, two-inside 4294967296 R 4096 M i j)
-  shaped (add-line {d = d} {c = c} w a b i j) = rw (w, a, b, two-inside 65535 d 1000000 c i j)
+  shaped (add-line {d = d} {c = c} w a b i j) = rw (w, a, b, two-inside 65535 d 16000000 c i j)
   shaped (remove-line {d = d} w a i) = rw (w, a, inside-false 65535 d i)
-  shaped (resize-line {d = d} {c = c} w a b i j) = rw (w, a, b, two-inside 65535 d 1000000 c i j)
+  shaped (resize-line {d = d} {c = c} w a b i j) = rw (w, a, b, two-inside 65535 d 16000000 c i j)
 
   pub far-two : Far xs → lineIn xs ≡ Refused 2
   unfolding lineIn
   far-two (range-far {R = R} {M = M} w a b h) = rw (w, a, b, two-outside 4294967296 R 4096 M h)
-  far-two (add-far {d = d} {c = c} w a b h) = rw (w, a, b, two-outside 65535 d 1000000 c h)
+  far-two (add-far {d = d} {c = c} w a b h) = rw (w, a, b, two-outside 65535 d 16000000 c h)
   far-two (remove-far {d = d} w a h) = rw (w, a, inside-true 65535 d h)
-  far-two (resize-far {d = d} {c = c} w a b h) = rw (w, a, b, two-outside 65535 d 1000000 c h)
+  far-two (resize-far {d = d} {c = c} w a b h) = rw (w, a, b, two-outside 65535 d 16000000 c h)
 
   pub shapeless-one : Shapeless xs → lineIn xs ≡ Refused 1
   unfolding lineIn
@@ -155,18 +155,18 @@ module _ (xs : List ℕ) where
   known-add : (a b : List ℕ) → words xs ≡ addBytes ∷ a ∷ b ∷ [] → (p : Parsed) → numberIn a ≡ p → (q : Parsed) → capacityIn b ≡ q → Known xs
   known-add a b w Word.Shapeless e q f = shapeless (add-first w e)
   known-add a b w (Word.Number d) e Word.Shapeless f = shapeless (add-second w e f)
-  known-add a b w (Word.Number d) e (Word.Number c) f = go (two-decided 65535 d 1000000 c)
+  known-add a b w (Word.Number d) e (Word.Number c) f = go (two-decided 65535 d 16000000 c)
     where
-      go : Decided (Inside 65535 d × Inside 1000000 c) → Known xs
+      go : Decided (Inside 65535 d × Inside 16000000 c) → Known xs
       go (within h) = said (add-line w e f (h .0) (h .1))
       go (without h) = far (add-far w e f (λ i j. h (i, j)))
 
   known-resize : (a b : List ℕ) → words xs ≡ resizeBytes ∷ a ∷ b ∷ [] → (p : Parsed) → numberIn a ≡ p → (q : Parsed) → capacityIn b ≡ q → Known xs
   known-resize a b w Word.Shapeless e q f = shapeless (resize-first w e)
   known-resize a b w (Word.Number d) e Word.Shapeless f = shapeless (resize-second w e f)
-  known-resize a b w (Word.Number d) e (Word.Number c) f = go (two-decided 65535 d 1000000 c)
+  known-resize a b w (Word.Number d) e (Word.Number c) f = go (two-decided 65535 d 16000000 c)
     where
-      go : Decided (Inside 65535 d × Inside 1000000 c) → Known xs
+      go : Decided (Inside 65535 d × Inside 16000000 c) → Known xs
       go (within h) = said (resize-line w e f (h .0) (h .1))
       go (without h) = far (resize-far w e f (λ i j. h (i, j)))
 

@@ -49,9 +49,9 @@ K2 r s k l = (k .answer ∙ marked .K2 .0, l .answer ∙ marked .K2 .1)
 pub K3 : (r : CapacityAnswer) → CapacityRead (0x30 ∷ 0x2e ∷ 0x30 ∷ 0x30 ∷ 0x30 ∷ []) r → r ≡ Refused 2
 K3 r k = k .answer ∙ marked .K3
 
--- `1000.000` is 1,000,000; `1000.001` gives 2
-pub K4 : (r s : CapacityAnswer) → CapacityRead (0x31 ∷ 0x30 ∷ 0x30 ∷ 0x30 ∷ 0x2e ∷ 0x30 ∷ 0x30 ∷ 0x30 ∷ []) r
-    → CapacityRead (0x31 ∷ 0x30 ∷ 0x30 ∷ 0x30 ∷ 0x2e ∷ 0x30 ∷ 0x30 ∷ 0x31 ∷ []) s → (r ≡ Thousandths 1000000) × (s ≡ Refused 2)
+-- `16000.000` is 16,000,000; `16000.001` gives 2 (Wish 1)
+pub K4 : (r s : CapacityAnswer) → CapacityRead (0x31 ∷ 0x36 ∷ 0x30 ∷ 0x30 ∷ 0x30 ∷ 0x2e ∷ 0x30 ∷ 0x30 ∷ 0x30 ∷ []) r
+    → CapacityRead (0x31 ∷ 0x36 ∷ 0x30 ∷ 0x30 ∷ 0x30 ∷ 0x2e ∷ 0x30 ∷ 0x30 ∷ 0x31 ∷ []) s → (r ≡ Thousandths 16000000) × (s ≡ Refused 2)
 K4 r s k l = (k .answer ∙ marked .K4 .0, l .answer ∙ marked .K4 .1)
 
 -- ---- shares

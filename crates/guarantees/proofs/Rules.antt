@@ -2,14 +2,15 @@
 --
 -- SHA-1: sixteen-words (the schedule of sixteen words gives what that of eighty does), whole-blocks
 -- shares: share-near (strictly within one of R × c / C)
--- order of the checks: two-first, five-before-seven, four-before-six, eight-before-nine
+-- sizes at the limits: product-fits, sum-fits, capacity-fits, text-fits
+-- order of the checks: two-first, five-before-seven, four-before-six, eight-before-nine; largest-capacity
 -- copies: copies-distinct, copies-first, copies-prefix, copies-owner; counters-fresh
 -- images: read-image, read-written, read-written-front, image-accepted, written-read, written-read-front, images-differ
 -- texts: line-for-line, line-count, text-parts, text-printed; texts-joined, texts-printed, texts-both; refused-stays, refused-dropped,
 -- accepted-alone, same-text, same-accepted
 use mathlib.Core.Path.{_≡_}
 use mathlib.Core.List.{List, [], _∷_, _++_, List·Memᴰ}
-use Prim.Native.Nat.{ℕ, suc, _+_, _*_, _≤_, _<_, min}
+use Prim.Native.Nat.{ℕ, suc, _+_, _*_, _^_, _≤_, _<_, min}
 use lib.ListN.{length, take, drop}
 use Rattle.sha1_blocks.specs.Fips180.{schedule, rounds, pad, N}
 use Rattle.sha1_blocks.specs.declared.Hash.{Hash}
@@ -22,6 +23,7 @@ use Rattle.slicing.specs.Runs.{count, intervals}
 use Rattle.slicing.specs.ShareRule.{shareOf}
 use Rattle.slicing.proofs.Cases as Cases
 use Rattle.slicing.proofs.Cases.{after, next, full}
+use Rattle.slicing.proofs.Limits as Limits
 use Rattle.slicing.proofs.ShareRule as Shares
 use Rattle.pools.specs.Pools.{stateOf, poolOf, ValidPool}
 use Rattle.pools.specs.declared.Pool.{Pool}
@@ -40,6 +42,7 @@ use Rattle.images.proofs.RoundTrips as RoundTrips
 use Rattle.slicing_core.specs.Rows.{at}
 use Rattle.history_lines.specs.Lines.{lineIn}
 use Rattle.history_numbers.specs.Text.{split}
+use Rattle.history_numbers.proofs.NumberWords as NumberWords
 use Rattle.history_lines.specs.declared.lines.LineAnswer.{LineAnswer}
 use Rattle.history_steps.specs.Steps.{Reading, start, applied}
 use Rattle.history.specs.Histories.{lastOf, linesOf, textOf, Complete, lineEnds, lineCount, readAll, poolAfter, acceptedLines, printedLines, unfinished}
@@ -64,6 +67,24 @@ pub share-near : (R : ℕ) (ds : List Device) → Rising 0 ds → (e : Device) �
     → (R * e .capacity < capacities ds * shareOf R ds (e .id) + capacities ds) × (capacities ds * shareOf R ds (e .id) < R * e .capacity + capacities ds)
 share-near = Shares.shareOf-near
 
+-- ---- sizes at the limits: R to 2^32, 256 devices, capacities to 16,000,000 (Wish 1)
+
+-- what a share divides by C, far inside 64 bits
+pub product-fits : {R c : ℕ} → R ≤ 4294967296 → c ≤ 16000000 → R * c ≤ 68719476736000000
+product-fits = Limits.product-size
+
+-- C
+pub sum-fits : (ds : List Device) → Rising 0 ds → length ds ≤ 256 → capacities ds ≤ 4096000000
+sum-fits = Limits.sum-size
+
+-- the four bytes of a capacity in an image
+pub capacity-fits : {c : ℕ} → c ≤ 16000000 → c < 2 ^ 32
+capacity-fits = Limits.capacity-size
+
+-- the largest text of a capacity, `9999999999.999`, is far inside 64 bits
+pub text-fits : {whole rest : ℕ} → whole < 10 ^ 10 → rest < 1000 → 1000 * whole + rest ≤ 9999999999999
+text-fits = NumberWords.text-size
+
 -- ---- 'Checks run down the table; the first that applies counts'
 
 -- three devices of one capacity
@@ -71,8 +92,11 @@ abbrev pub three : List Change
 three = add 1 1000 ∷ add 2 1000 ∷ add 3 1000 ∷ []
 
 pub two-first : (next (fresh 100 16) three (add 1 0) .number ≡ 2) × (next (fresh 100 16) three (remove 65536) .number ≡ 2)
-    × (next (fresh 100 16) [] (resize 7 1000001) .number ≡ 2)
+    × (next (fresh 100 16) [] (resize 7 16000001) .number ≡ 2)
 two-first = Cases.two-first
+
+pub largest-capacity : (next (fresh 100 16) [] (add 7 16000000) .number ≡ 0) × (next (fresh 100 16) [] (add 7 16000001) .number ≡ 2)
+largest-capacity = Cases.largest-capacity
 
 pub five-before-seven : (next (fresh 100 16) (add 1 1000 ∷ []) (remove 2) .number ≡ 5) × (next (fresh 100 16) (add 1 1000 ∷ []) (remove 1) .number ≡ 7)
 five-before-seven = Cases.five-before-seven

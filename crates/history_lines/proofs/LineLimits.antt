@@ -9,13 +9,13 @@ use mathlib.Core.Bool.{Bool, true, false, cond}
 use mathlib.Core.List.{List, [], _∷_}
 use Prim.Native.Nat.{ℕ, _≤_}
 use native.Mathlib.Omega.{arith}
-use Rattle.slicing.specs.Limits.{maxRange, maxLimit, maxId, outside}
-use Rattle.slicing.proofs.Changes.{or-false, outside-false}
+use Rattle.slicing.specs.Limits.{maxRange, maxLimit, maxId, outside, deviceOutside}
+use Rattle.slicing.proofs.Limits.{or-false, outside-false}
 use Rattle.history_lines.specs.declared.lines.LineAnswer.{LineAnswer}
 use Rattle.history_lines.specs.declared.lines.LineAnswer.the-variants.{Range, Add, Remove, Resize, Refused}
 use Rattle.history_numbers.specs.declared.numbers.Parsed.{Parsed}
 use Rattle.history_numbers.specs.declared.numbers.Parsed.the-variants.{Number, Shapeless}
-use Rattle.history_lines.specs.Lines.{rangeWord, addWord, removeWord, resizeWord, same, pairLine, removeLine, rangeOutside, deviceOutside, lineOf, lineIn}
+use Rattle.history_lines.specs.Lines.{rangeWord, addWord, removeWord, resizeWord, same, pairLine, removeLine, rangeOutside, lineOf, lineIn}
 use Rattle.history_numbers.specs.Text.{space, split, numberIn, capacityIn}
 
 -- a line within its limits

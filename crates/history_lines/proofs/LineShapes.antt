@@ -21,10 +21,10 @@ use lib.Seq.{drop-cons}
 use types.Run.{OneOf}
 use denote.Enum.Declared.{tagOf}
 use borrow.Author.Tests.{eq-eqb, ne-eqb}
-use Rattle.slicing.specs.Limits.{maxId, maxCapacity, outside}
+use Rattle.slicing.specs.Limits.{maxId, maxCapacity, outside, deviceOutside}
 use Rattle.history_numbers.specs.Text.{space, split, numberIn, capacityIn}
 use Rattle.history_numbers.specs.Capacities.{capacityReply, capacityAnswer}
-use Rattle.history_lines.specs.Lines.{lineReply, same, rangeWord, addWord, removeWord, resizeWord, pairLine, removeLine, rangeOutside, deviceOutside, threeWords, lineOf, lineIn, LineRead}
+use Rattle.history_lines.specs.Lines.{lineReply, same, rangeWord, addWord, removeWord, resizeWord, pairLine, removeLine, rangeOutside, threeWords, lineOf, lineIn, LineRead}
 use Rattle.history_numbers.specs.declared.numbers.CapacityAnswer.{CapacityAnswer}
 use Rattle.history_numbers.specs.declared.numbers.CapacityAnswer.the-variants as Capacity
 use Rattle.history_lines.specs.declared.lines.LineAnswer.{LineAnswer}

@@ -9,7 +9,7 @@ use mathlib.Core.Bool.{Bool, true, false, cond, _&&_, _||_}
 use mathlib.Core.List.{List, [], _∷_}
 use Prim.Native.Nat.{ℕ}
 use lib.Dec.{eqb}
-use Rattle.slicing.specs.Limits.{maxRange, maxLimit, maxId, maxCapacity, outside}
+use Rattle.slicing.specs.Limits.{maxRange, maxLimit, maxId, outside, deviceOutside}
 use Rattle.history_lines.specs.declared.lines.LineAnswer.{LineAnswer}
 use Rattle.history_lines.specs.declared.lines.LineAnswer.the-variants.{Range, Add, Remove, Resize, Refused}
 use Rattle.history_numbers.specs.declared.numbers.Parsed.{Parsed}
@@ -64,10 +64,6 @@ removeLine (Number d) = cond (outside maxId d) (Refused 2) (Remove d)
 -- a range line's numbers, one of them outside its limits
 abbrev pub rangeOutside : ℕ → ℕ → Bool
 rangeOutside R M = outside maxRange R || outside maxLimit M
-
--- a device's id and capacity, one of them outside its limits
-abbrev pub deviceOutside : ℕ → ℕ → Bool
-deviceOutside d c = outside maxId d || outside maxCapacity c
 
 -- 'They are `range R M`, `add ID CAPACITY`, `remove ID`, `resize ID CAPACITY`: lower case, one space between words, nothing else.'
 abbrev pub threeWords : List ℕ → List ℕ → List ℕ → LineAnswer

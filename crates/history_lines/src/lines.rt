@@ -9,13 +9,14 @@ use slicing::MAX_LIMIT;
 use slicing::MAX_RANGE;
 use slicing::OUTSIDE;
 use slicing::SHAPELESS;
+use slicing::outside;
 ghost use mathlib.Core.Path.{_≡_};
 ghost use Prim.Native.Nat.{_≤_};
 ghost use lib.ListN.{length};
-ghost use Rattle.slicing.specs.Limits as Limits;
+ghost use Rattle.slicing.specs.Limits.{deviceOutside};
 ghost use Rattle.history_lines.specs.Lines as Lines;
 ghost use Rattle.history_numbers.specs.Capacities.{capacityReply};
-ghost use Rattle.history_lines.specs.Lines.{pairLine, removeLine, rangeOutside, deviceOutside, threeWords, LineRead};
+ghost use Rattle.history_lines.specs.Lines.{pairLine, removeLine, rangeOutside, threeWords, LineRead};
 ghost use Rattle.history_lines.specs.Cuts.{partAt};
 ghost use Rattle.history_numbers.specs.Text.{numberIn, capacityIn};
 ghost use Rattle.history_lines.specs.declared.lines.LineAnswer.the-variants.{Range, Add, Resize};
@@ -44,16 +45,6 @@ fn same(a: &[u8], b: &[u8]) -> bool
         i += 1;
     }
     true
-}
-
-// Whether x lies outside 1 to `most`.
-fn outside(most: u64, x: u64) -> bool
-    ensures { λ r. ⌜ r ≡ Limits.outside most x ⌝ }
-{
-    if x < 1 {
-        return true;
-    }
-    most < x
 }
 
 fn range_line(first: &[u8], second: &[u8]) -> LineAnswer

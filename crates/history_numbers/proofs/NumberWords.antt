@@ -4,11 +4,11 @@
 --   FractionRead w r       r is what `fraction` promises of the word w
 --   Spelled w v            the word w is one to three digits, and they spell v
 --
--- Bool: and-false; outside-low, outside-high, outside-right
+-- Bool: and-false; outside-low, outside-high
 -- numbers: leading-low, leading-other, leading-single; number-short, number-long, number-led, number-digits
 -- fractions: fraction-short, fraction-long, fraction-none; spelled-as, spelled-below, fraction-one, fraction-two, fraction-three
 -- capacities: pointed (a text with a point in it is not all digits), capacity-pointed (a first part, and what stands behind the first point);
---   capacity-none, capacity-whole, capacity-rest, capacity-all; answer-low, answer-high, answer-right; capacityReply-answer, capacity-read
+--   capacity-none, capacity-whole, capacity-rest, capacity-all; text-size; answer-outside, answer-inside; capacityReply-answer, capacity-read
 use mathlib.Core.Path.{_≡_, refl, sym, ap, _∙_}
 use mathlib.Core.Bool.{Bool, true, false, cond, _&&_, not}
 use mathlib.Core.List.{List, [], _∷_}
@@ -21,6 +21,7 @@ use lib.Seq.{take-length}
 use borrow.Author.Tests.{lt-ltb, le-ltb, lt-leb, ne-eqb, eqb-true, eqb-false}
 use Rattle.slicing.specs.Limits.{maxCapacity, outside}
 use Rattle.slicing.specs.Replies.{replied, declined}
+use Rattle.slicing.proofs.Limits.{within-limits}
 use Rattle.history_numbers.specs.Cuts.{cutAt}
 use Rattle.history_numbers.specs.Capacities.{capacityReply, capacityAnswer, parsedReply, CapacityRead}
 use Rattle.history_numbers.specs.declared.numbers.CapacityAnswer.{CapacityAnswer}
@@ -48,15 +49,11 @@ cond-some false n v e = absurd (no-number v e)
 -- ---- outside
 
 module _ (k x : ℕ) where
-  pub outside-low : x < 1 → outside k x ≡ true
+  outside-low : x < 1 → outside k x ≡ true
   outside-low h = rw (lt-ltb x 1 h)
 
-  module _ (l : 1 ≤ x) where
-    pub outside-high : k < x → outside k x ≡ true
-    outside-high h = rw (le-ltb x 1 l, lt-ltb k x h)
-
-    pub outside-right : x ≤ k → outside k x ≡ false
-    outside-right h = rw (le-ltb x 1 l, le-ltb k x h)
+  outside-high : 1 ≤ x → k < x → outside k x ≡ true
+  outside-high l h = rw (le-ltb x 1 l, lt-ltb k x h)
 
 -- ---- numbers
 
@@ -100,7 +97,7 @@ module _ (w : List ℕ) where
   pub number-digits : 1 ≤ length w → length w ≤ 10 → leadingZero w ≡ false → (r : Parsed) → Answered w r → NumberRead w r
   unfolding numberIn
   number-digits l m z r a =
-      let e : isNumber w ≡ allDigits w = rw (outside-right 10 (length w) l m, z) in (
+      let e : isNumber w ≡ allDigits w = rw (within-limits 10 (length w) l m, z) in (
         rw e (a .0),
         λ n k. omega (arith, a .1 n k, pow-le-pow-right {n = 10} (omega arith) {i = length w} {j = 10} m),
       )
@@ -123,7 +120,7 @@ module _ (w : List ℕ) where
 
     module _ (m : length w ≤ 3) where
       digits-decide : isFraction w ≡ allDigits w
-      digits-decide = rw (outside-right 3 (length w) l m)
+      digits-decide = rw (within-limits 3 (length w) l m)
 
       pub fraction-none : (r : Parsed) → Answered w r → r ≡ Shapeless → FractionRead w Shapeless
       fraction-none r a e = unread (digits-decide ∙ cond-none (allDigits w) (spelled 0 w) (sym (a .0) ∙ e))
@@ -223,17 +220,18 @@ module _ {w : List ℕ} {n : ℕ} {rest : List ℕ} (c : Cut point w n rest) (v 
       let s = cond-some (isFraction rest) (fractionOf rest) u k in
       rw (cut-in w n rest c, some-whole w n v e .0, some-whole w n v e .1, s .0, s .1)
 
+-- the largest text, `9999999999.999`, is far inside 64 bits
+pub text-size : {whole rest : ℕ} → whole < 10 ^ 10 → rest < 1000 → 1000 * whole + rest ≤ 9999999999999
+text-size h l = omega arith
+
 -- ---- the answer
 
 module _ (v : ℕ) where
-  pub answer-low : v < 1 → Capacity.Refused 2 ≡ capacityAnswer (Number v)
-  answer-low h = rw (outside-low maxCapacity v h)
+  pub answer-outside : outside maxCapacity v ≡ true → Capacity.Refused 2 ≡ capacityAnswer (Number v)
+  answer-outside h = rw h
 
-  pub answer-high : maxCapacity < v → Capacity.Refused 2 ≡ capacityAnswer (Number v)
-  answer-high h = rw (outside-high maxCapacity v (omega arith) h)
-
-  pub answer-right : 1 ≤ v → v ≤ maxCapacity → Capacity.Thousandths v ≡ capacityAnswer (Number v)
-  answer-right l h = rw (outside-right maxCapacity v l h)
+  pub answer-inside : outside maxCapacity v ≡ false → Capacity.Thousandths v ≡ capacityAnswer (Number v)
+  answer-inside h = rw h
 
 capacityReply-answer : (p : Parsed) → capacityReply (capacityAnswer p) ≡ parsedReply p
 capacityReply-answer Shapeless = refl

@@ -2,6 +2,7 @@
 use slicing::MAX_CAPACITY;
 use slicing::OUTSIDE;
 use slicing::SHAPELESS;
+use slicing::outside;
 ghost use mathlib.Core.Path.{_≡_};
 ghost use mathlib.Core.Bool.{cond};
 ghost use Prim.Native.Nat.{ℕ, _≤_, _<_, _^_};
@@ -110,7 +111,7 @@ fn fraction(word: &[u8]) -> Parsed
     Parsed::Number(value)
 }
 
-// A capacity in thousandths of a TB, whatever its size.
+// A capacity in thousandths of a TB, whatever its size. The largest is that of `9999999999.999`.
 fn thousandths(word: &[u8]) -> Parsed
     ensures { λ r. ⌜ r ≡ capacityIn (now (word .entry)) ⌝ }
 {
@@ -128,17 +129,14 @@ fn thousandths(word: &[u8]) -> Parsed
     Parsed::Number(1000 * whole + rest)
 }
 
-// A capacity in thousandths of a TB. 1 for a word that is none, 2 for one outside 1 to 1,000,000.
+// A capacity in thousandths of a TB. 1 for a word that is none, 2 for one outside 1 to 16,000,000.
 pub fn capacity(word: &[u8]) -> CapacityAnswer
     ensures { λ r. ⌜ CapacityRead (now (word .entry)) r ⌝ }
 {
     let Parsed::Number(value) = thousandths(word) else {
         return CapacityAnswer::Refused(SHAPELESS);
     };
-    if value < 1 {
-        return CapacityAnswer::Refused(OUTSIDE);
-    }
-    if value > MAX_CAPACITY {
+    if outside(MAX_CAPACITY, value) {
         return CapacityAnswer::Refused(OUTSIDE);
     }
     CapacityAnswer::Thousandths(value)

@@ -30,7 +30,7 @@ pub fn text_room() -> [u8; MOST]
 }
 
 // ROOM zeros.
-fn transcript_room() -> [u8; ROOM]
+pub fn transcript_room() -> [u8; ROOM]
     ensures { λ r. ⌜ room ≡ length r ⌝ }
 {
     [0; ROOM]

@@ -20,6 +20,7 @@ use Rattle.slicing.specs.Changes.{State}
 use Rattle.slicing.specs.Devices.{Device, ids, Rising}
 use Rattle.slicing.specs.Runs.{Run, _of_, one, total, owned, count, Coalesced}
 use Rattle.slicing.specs.Validity.{Valid}
+use Rattle.slicing.proofs.Limits.{capacity-size}
 use Rattle.slicing.proofs.ShareRule.{shareOf-absent}
 use Rattle.slicing_core.specs.Rows.{at, deviceRows, tableRows}
 use Rattle.slicing_core.proofs.Rows.{length-deviceRows}
@@ -57,7 +58,7 @@ ids-fit a (e ∷ ds) h (suc i) = ids-fit (e .id) ds (h .1) i
 
 pub capacities-fit : (a : ℕ) (ds : List Device) → Rising a ds → (i : ℕ) → at (capacitiesOf ds) i < 2 ^ 32
 capacities-fit a [] h i = omega arith
-capacities-fit a (e ∷ ds) h zero = omega (arith, h .0 .most)
+capacities-fit a (e ∷ ds) h zero = capacity-size (h .0 .most)
 capacities-fit a (e ∷ ds) h (suc i) = capacities-fit (e .id) ds (h .1) i
 
 starts-below : (x N : ℕ) (rs : List (Run ℕ)) → 1 ≤ N → (1 ≤ length rs → x + total rs ≤ N) → Coalesced eqb rs → (i : ℕ) → at (startsOf x rs) i < N

@@ -21,9 +21,9 @@ pub record Marked : Type 0 where
       × (capacityAnswer (capacityIn (0x33 ∷ 0x2e ∷ 0x32 ∷ 0x65 ∷ [])) ≡ Refused 1)
   -- `0.000` gives 2
   pub K3 : capacityAnswer (capacityIn (0x30 ∷ 0x2e ∷ 0x30 ∷ 0x30 ∷ 0x30 ∷ [])) ≡ Refused 2
-  -- `1000.000` is 1,000,000; `1000.001` gives 2
-  pub K4 : (capacityAnswer (capacityIn (0x31 ∷ 0x30 ∷ 0x30 ∷ 0x30 ∷ 0x2e ∷ 0x30 ∷ 0x30 ∷ 0x30 ∷ [])) ≡ Thousandths 1000000)
-      × (capacityAnswer (capacityIn (0x31 ∷ 0x30 ∷ 0x30 ∷ 0x30 ∷ 0x2e ∷ 0x30 ∷ 0x30 ∷ 0x31 ∷ [])) ≡ Refused 2)
+  -- `16000.000` is 16,000,000; `16000.001` gives 2 (Wish 1)
+  pub K4 : (capacityAnswer (capacityIn (0x31 ∷ 0x36 ∷ 0x30 ∷ 0x30 ∷ 0x30 ∷ 0x2e ∷ 0x30 ∷ 0x30 ∷ 0x30 ∷ [])) ≡ Thousandths 16000000)
+      × (capacityAnswer (capacityIn (0x31 ∷ 0x36 ∷ 0x30 ∷ 0x30 ∷ 0x30 ∷ 0x2e ∷ 0x30 ∷ 0x30 ∷ 0x31 ∷ [])) ≡ Refused 2)
   -- R = 100, three equal: shares 34, 33, 33
   pub K5 : shares 100 (device 1 1000 ∷ device 2 1000 ∷ device 3 1000 ∷ []) ≡ (34 of 1) ∷ (33 of 2) ∷ (33 of 3) ∷ []
   -- after line 4 it is 0–33 to device 1, 34–66 to 3, 67–99 to 2

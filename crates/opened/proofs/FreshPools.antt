@@ -10,7 +10,7 @@ use lib.ListN.{length}
 use Rattle.slicing.specs.Changes.{fresh}
 use Rattle.slicing.specs.Limits.{maxRange, maxLimit, outside}
 use Rattle.slicing.specs.Validity.{Valid}
-use Rattle.slicing.proofs.Changes.{outside-false, or-false}
+use Rattle.slicing.proofs.Limits.{or-false, outside-false}
 use Rattle.slicing.proofs.Claims.{valid-fresh}
 use Rattle.packed_runs.specs.Words.{room}
 use Rattle.opened.specs.OpenPools.{Open}

@@ -50,7 +50,7 @@ module _ {o : Opened} {table : List ℕ} (h : Open o table) where
   open-ids = below-rising (o .ids) (o .capacities) (o .devices) open-rising
 
   pub open-capacities : Below 4294967296 (o .capacities) (o .devices)
-  open-capacities i l = omega (arith, capacities-rising (o .ids) (o .capacities) (o .devices) open-rising i l)
+  open-capacities = capacities-rising (o .ids) (o .capacities) (o .devices) open-rising
 
   pub open-ascending : Ascending (o .ids) (o .devices)
   open-ascending = ascending-rising (o .ids) (o .capacities) (o .devices) open-rising

@@ -1,4 +1,4 @@
-// The devices of an opened pool: limits, the row of an id, and their shares.
+// The devices of an opened pool: the row of an id, and their shares.
 use crate::Opened;
 use shares::shares;
 use slicing::MAX_DEVICES;
@@ -12,16 +12,6 @@ ghost use Rattle.slicing.specs.Limits as Limits;
 ghost use Rattle.slicing.specs.ShareRule.{shares as sharesOf};
 ghost use Rattle.slicing_core.specs.Rows.{at, rows, deviceRows};
 ghost use Rattle.slicing_core.specs.Stages.{Ascending, Position};
-
-// Whether x lies outside 1 to `most`.
-pub fn outside(most: u64, x: u64) -> bool
-    ensures { λ r. ⌜ r ≡ Limits.outside most x ⌝ }
-{
-    if x < 1 {
-        return true;
-    }
-    most < x
-}
 
 // How many of the n rising ids are below `id`, by halving.
 pub fn position(ids: &[u64; MAX_DEVICES], n: usize, id: u64) -> usize

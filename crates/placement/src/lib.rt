@@ -202,7 +202,7 @@ fn write(list: &mut [Move], draft: Draft) -> ChangeAnswer
 }
 
 // Adds a device. 2 for a pool that is not valid, an id outside 1 to 65,535 or a capacity outside 1 to
-// 1,000,000; 4 where the id is present; 6 where 256 devices are; 8 where the new table has over M
+// 16,000,000; 4 where the id is present; 6 where 256 devices are; 8 where the new table has over M
 // intervals; 9 where the list has too few places.
 pub fn add(pool: Pool, id: u64, capacity: u64, list: &mut [Move]) -> ChangeAnswer
     ensures { λ r. ⌜ Changed pool (now (list .entry)) (Changes.add id capacity) r (now (list .exit)) ⌝ }

@@ -5,28 +5,24 @@
 --
 -- Planned: planned-only
 use mathlib.Core.Path.{_≡_, refl, sym, _∙_, subst}
-use mathlib.Core.Bool.{false}
 use mathlib.Core.List.{List, [], _∷_}
 use Prim.Native.Nat.{ℕ, _*_, _/_, _%_, _≤_}
 use native.Mathlib.Omega.{arith}
 use lib.ListN.{length, set, length-set}
 use lib.Seq.{getD-set-same}
-use borrow.Author.Tests.{le-ltb}
 use Rattle.slicing.specs.Changes.{State, fresh, change, add, accepted}
 use Rattle.slicing.specs.Devices.{device}
-use Rattle.slicing.specs.Limits.{maxRange, maxLimit, maxId, maxCapacity, outside}
+use Rattle.slicing.specs.Limits.{maxRange, maxLimit, maxId, maxCapacity}
 use Rattle.slicing.specs.Runs.{_of_}
 use Rattle.slicing.specs.Validity.{Valid}
 use Rattle.slicing.proofs.Changes.{valid-change}
 use Rattle.slicing.proofs.Claims.{valid-fresh}
+use Rattle.slicing.proofs.Limits.{within-limits}
 use Rattle.slicing_core.specs.Rows.{at}
 use Rattle.packed_runs.specs.Words.{room}
 use Rattle.opened.specs.OpenPools.{stateIn, Open}
 use Rattle.plans.specs.Plans.{Planned}
 use Rattle.opened.specs.declared.Opened.{Opened}
-
-within-limits : (k x : ℕ) → 1 ≤ x → x ≤ k → outside k x ≡ false
-within-limits k x a b = rw (le-ltb x 1 a, le-ltb k x b)
 
 abbrev only : Opened → ℕ → ℕ → Opened
 only o id capacity = record {

@@ -9,6 +9,7 @@ ghost use Prim.Native.Nat.{ℕ, _≤_};
 ghost use lib.ListN.{length};
 ghost use Rattle.slicing.specs.Changes as Changes;
 ghost use Rattle.slicing.specs.Devices as Devices;
+ghost use Rattle.slicing.specs.Limits as Limits;
 ghost use Rattle.slicing.specs.Runs.{_of_};
 ghost use Rattle.packed_runs.specs.Words.{room};
 ghost use Rattle.plans.specs.Plans.{Planned};
@@ -16,7 +17,7 @@ ghost use Rattle.plans.specs.Plans.{Planned};
 // The only device of a pool gets the whole range, and nothing moves.
 pub fn first(before: Opened, id: u64, capacity: u64, next: &mut [u64; ROOM]) -> Plan
     requires { ⌜ (1 ≤ before .range) × (before .range ≤ 4294967296) × (1 ≤ before .limit) × (before .limit ≤ 4096) ⌝ }
-    requires { ⌜ (1 ≤ id) × (id ≤ 65535) × (1 ≤ capacity) × (capacity ≤ 1000000) × (length (now next) ≡ room) ⌝ }
+    requires { ⌜ (1 ≤ id) × (id ≤ 65535) × (1 ≤ capacity) × (capacity ≤ Limits.maxCapacity) × (length (now next) ≡ room) ⌝ }
     requires { ⌜ (length (before .ids) ≡ 256) × (length (before .capacities) ≡ 256) × (length (before .has) ≡ 256) ⌝ }
     ensures { λ r. ⌜ ((s : Changes.State) (places : ℕ) (work : List ℕ) → s .range ≡ before .range → s .limit ≡ before .limit
         → Planned (λ lent. Changes.accepted s lent (Devices.device id capacity ∷ []) ((s .range of id) ∷ []) []) places before r work (now (next .exit))) ⌝ }

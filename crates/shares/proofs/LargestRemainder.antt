@@ -1,13 +1,13 @@
 -- The parts of a share by largest remainder on rows of devices.
 --
--- capacities: capacity-most, some-capacities
+-- capacities: capacity-most, some-capacities, sum-most
 -- rank: rank-step, rank-end (a loop over the rows), rank-rows (it is the rules')
--- floors: product-most, floors-most, remainders-rows
+-- floors: floors-most, remainders-rows
 -- share: floor-most, share-more, share-same, rows-shares
 use mathlib.Core.Path.{_≡_, refl}
 use mathlib.Core.List.{List}
 use Prim.Native.Nat.{ℕ, zero, suc, _+_, _*_, _-_, _/_, _%_, _≤_, _<_}
-use native.Mathlib.Nat.{mul-le-mul, div-le-self, le-trans}
+use native.Mathlib.Nat.{div-le-self, le-trans}
 use native.Mathlib.Numerals.{add-one}
 use native.Mathlib.Omega.{arith}
 use borrow.Author.Tests.{lt-ltb, le-ltb}
@@ -18,6 +18,7 @@ use Rattle.slicing.specs.Limits.{maxRange, maxCapacity}
 use Rattle.slicing.specs.Runs.{one}
 use Rattle.slicing.proofs.Devices.{rising-capacities}
 use Rattle.slicing.proofs.LargestRemainder.{lex, floors-le}
+use Rattle.slicing.proofs.Limits.{product-size, sum-size}
 use Rattle.slicing_core.specs.Rows.{at, rows, deviceRows}
 use Rattle.shares.specs.LargestRemainder.{Remainders, rank}
 use Rattle.slicing_core.proofs.DeviceRows.{within-rising}
@@ -32,6 +33,9 @@ module _ (ids caps : List ℕ) (n : ℕ) (r : Rising 0 (deviceRows ids caps 0 n)
 
   pub some-capacities : 1 ≤ n → 1 ≤ capacities (deviceRows ids caps 0 n)
   some-capacities l = omega (arith, rising-capacities 0 (deviceRows ids caps 0 n) r, length-deviceRows ids caps 0 n)
+
+  pub sum-most : n ≤ 256 → capacities (deviceRows ids caps 0 n) ≤ 4096000000
+  sum-most l = sum-size (deviceRows ids caps 0 n) r (omega (arith, length-deviceRows ids caps 0 n))
 
 -- ---- the rank
 
@@ -52,9 +56,6 @@ rank-rows R C ids caps rems p i (suc m) e h =
 
 -- ---- what each device gets first, within the limits
 
-pub product-most : {R c : ℕ} → R ≤ maxRange → c ≤ maxCapacity → R * c ≤ maxRange * maxCapacity
-product-most h l = mul-le-mul h l
-
 pub floors-most : (R C : ℕ) (ids caps : List ℕ) (n : ℕ) → C ≡ capacities (deviceRows ids caps 0 n) → 1 ≤ C → floors R C (deviceRows ids caps 0 n) ≤ R
 floors-most R C ids caps n e h = rw e (floors-le R (deviceRows ids caps 0 n) (omega arith))
 
@@ -72,8 +73,8 @@ remainders-rows e f r g = record {
 -- ---- the share of the device at place p
 
 module _ {R n left : ℕ} {ids caps fl rs : List ℕ} (d : Remainders R ids caps n fl rs left) (p : ℕ) (l : p < n) where
-  pub floor-most : R ≤ maxRange → at caps p ≤ maxCapacity → at fl p ≤ maxRange * maxCapacity
-  floor-most h c = rw (d .floored p l) (le-trans (div-le-self (R * at caps p) (capacities (deviceRows ids caps 0 n))) (product-most h c))
+  pub floor-most : R ≤ maxRange → at caps p ≤ maxCapacity → at fl p ≤ 68719476736000000
+  floor-most h c = rw (d .floored p l) (le-trans (div-le-self (R * at caps p) (capacities (deviceRows ids caps 0 n))) (product-size h c))
 
   ranked : rank rs ids p 0 n ≡ Rule.rank (before R (capacities (deviceRows ids caps 0 n))) (deviceRows ids caps 0 n) (device (at ids p) (at caps p))
   ranked = rank-rows R (capacities (deviceRows ids caps 0 n)) ids caps rs p 0 n (d .remained p l) (λ k m. d .remained k (omega arith))

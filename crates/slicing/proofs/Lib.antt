@@ -1,4 +1,5 @@
 pub mod Counting
+pub mod Limits
 pub mod Runs
 pub mod Intervals
 pub mod Ranks

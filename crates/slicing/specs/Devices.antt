@@ -45,7 +45,7 @@ abbrev pub update : ℕ → ℕ → List Device → List Device
 update d c [] = []
 update d c (e ∷ ds) = device (e .id) (cond (eqb d (e .id)) c (e .capacity)) ∷ update d c ds
 
--- 'A device has an id (1 to 65,535) and a capacity in thousandths of a TB (1 to 1,000,000).'
+-- 'A device has an id (1 to 65,535) and a capacity in thousandths of a TB', 1 to 16,000,000 (Wish 1).
 pub record Within (a : ℕ) (e : Device) : Type 0 where
   pub above : a < e .id
   pub known : e .id ≤ maxId

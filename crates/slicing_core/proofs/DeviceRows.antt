@@ -16,6 +16,7 @@ use lib.ListN.{length, set}
 use lib.Seq.{getD-set-same, getD-set-other}
 use borrow.Author.Tests.{lt-ltb, le-ltb, eq-eqb, ne-eqb, eqb-true, eqb-false, ltb-true, ltb-false}
 use Rattle.slicing.specs.Devices.{device, present, insert, delete, update, Within, Rising}
+use Rattle.slicing.proofs.Limits.{capacity-size}
 use Rattle.slicing_core.specs.Rows.{at, deviceRows}
 use Rattle.slicing_core.specs.Stages.{Below, Ascending, Position, Inserted, Deleted}
 use Rattle.slicing_core.proofs.Rows.{deviceRows-step, deviceRows-end}
@@ -65,8 +66,8 @@ module _ (d c : List ℕ) where
     pub below-rising : Below 65536 d n
     below-rising k l = omega (arith, within-rising k l .known)
 
-    pub capacities-rising : Below 1000001 c n
-    capacities-rising k l = omega (arith, within-rising k l .most)
+    pub capacities-rising : Below 4294967296 c n
+    capacities-rising k l = capacity-size (within-rising k l .most)
 
 -- ---- whether an id is present: at its place among rising ids, or nowhere
 

@@ -2,6 +2,7 @@
 use slicing::MAX_CAPACITY;
 use slicing::MAX_DEVICES;
 use slicing::MAX_ID;
+use slicing::outside;
 ghost use mathlib.Core.Path.{_≡_};
 ghost use mathlib.Core.Bool.{true};
 ghost use Prim.Native.Nat.{_+_, _-_, _≤_, _<_};
@@ -26,10 +27,7 @@ pub fn rising(ids: &[u64; MAX_DEVICES], capacities: &[u64; MAX_DEVICES], n: usiz
         if id > MAX_ID {
             return false;
         }
-        if capacity < 1 {
-            return false;
-        }
-        if capacity > MAX_CAPACITY {
+        if outside(MAX_CAPACITY, capacity) {
             return false;
         }
         last = id;

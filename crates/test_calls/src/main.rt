@@ -5,6 +5,8 @@
 //
 //   sha1 BYTES                           refusal, digest
 //   capacity TEXT                        refusal, thousandths
+//   transcript TEXT                      refusal, length and digest of what `slices` prints; zeros for the digest
+//                                        of more than 65,536 bytes
 //   point BLOCK TRY RANGE                refusal, point
 //   owner POOL POINT                     refusal, owner
 //   copies POOL BLOCK K LOOKUPS TRIES    refusal, eight owners, tries, the two counters afterwards
@@ -56,6 +58,7 @@ mod pool_rows;
 mod printing;
 mod single_bytes;
 mod spelling;
+mod transcripts;
 mod words;
 
 // The most bytes of a line without its end.
@@ -113,6 +116,10 @@ fn bytes_line(line: &[u8], bytes: &mut [u8]) -> bool {
     }
     if is(line, b"capacity", 1) {
         printing::capacity(history::capacity(bytes));
+        return true;
+    }
+    if is(line, b"transcript", 1) {
+        transcripts::transcript(bytes);
         return true;
     }
     if is(line, b"read", 1) {

@@ -2,12 +2,12 @@
 use crate::ShareAnswer;
 use crate::opening::open;
 use opened::devices::find;
-use opened::devices::outside;
 use packed_runs::blank;
 use pools::Pool;
 use slicing::ABSENT;
 use slicing::MAX_ID;
 use slicing::OUTSIDE;
+use slicing::outside;
 ghost use Rattle.valid_pools.specs.Promises.{Shared};
 
 // The share of a device. 2 for a pool that is not valid or an id outside 1 to 65,535; 5 where it is absent.

@@ -5,7 +5,7 @@ use std::collections::BTreeMap;
 pub const RANGE_MOST: u64 = 4_294_967_296;
 pub const LIMIT_MOST: u64 = 4_096;
 pub const ID_MOST: u64 = 65_535;
-pub const CAPACITY_MOST: u64 = 1_000_000;
+pub const CAPACITY_MOST: u64 = 16_000_000;
 pub const DEVICES_MOST: usize = 256;
 
 #[derive(Clone, Debug, PartialEq, Eq)]

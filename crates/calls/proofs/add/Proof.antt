@@ -5,9 +5,9 @@ use Prim.Native.Nat.{_+_, _≤_, _<_}
 use native.Mathlib.Omega.{arith}
 use borrow.Author.Needs.{needs}
 use Rattle.slicing.specs.Devices.{device, present, insert, Within}
-use Rattle.slicing.specs.Limits.{maxId, maxCapacity, outside}
+use Rattle.slicing.specs.Limits.{deviceOutside}
 use Rattle.opened.specs.OpenPools.{devicesIn, stateIn}
-use Rattle.calls.proofs.CallChecks.{open-table, inside-limits, add-id, add-capacity, add-four, add-six, add-first, add-settle}
+use Rattle.calls.proofs.CallChecks.{open-table, inside-limits, add-two, add-four, add-six, add-first, add-settle}
 use Rattle.calls.proofs.MergedRows.{Prepared, prepared-add}
 use Rattle.calls.proofs.NextDevices.{Next, open-few, open-ascending, next-add}
 use Rattle.calls.proofs.add.Statement.{statement}
@@ -17,62 +17,50 @@ returns : tie.Need-returns
 returns c =
     let w = c .before .before in
     let s = w .before in
-    let a = s .args in
-    (add-id (a .before) (a .table .now) (a .id) (a .capacity) (sym (w .outside .ensures) ∙ c .before .if1 .taken) (c .refused .ensures), (s .pre .1, s .pre .2))
-
--- past the check of the id
-known : (c : tie.Else1) → outside maxId (c .before .before .args .id) ≡ false
-known c = sym (c .before .outside .ensures) ∙ c .if1 .left
-
-returns-2 : tie.Need-returns-2
-returns-2 c =
-    let w = c .before .before in
-    let s = w .before .before .before in
     let a = s .args in (
-      add-capacity (a .before) (a .table .now) (a .id) (a .capacity) (known (w .before)) (sym (w .outside2 .ensures) ∙ c .before .if2 .taken)
-          (c .refused2 .ensures),
+      add-two (a .before) (a .table .now) (a .id) (a .capacity) (sym (w .device-outside .ensures) ∙ c .before .if1 .taken) (c .refused .ensures),
       (s .pre .1, s .pre .2),
     )
 
-abbrev start : tie.Else2 → tie.Start
-start c = c .before .before .before .before
+abbrev start : tie.Else1 → tie.Start
+start c = c .before .before
 
--- past the check of the capacity
-sized : (c : tie.Else2) → outside maxCapacity (start c .args .capacity) ≡ false
-sized c = sym (c .before .outside2 .ensures) ∙ c .if2 .left
+-- past the check of the limits
+inside : (c : tie.Else1) → deviceOutside (start c .args .id) (start c .args .capacity) ≡ false
+inside c = sym (c .before .device-outside .ensures) ∙ c .if1 .left
 
 find-requires : tie.Need-find-requires
 find-requires c κs = let a = start (c .before .before) .pre .0 in (open-few a, open-ascending a)
 
-abbrev checked : tie.After-find → tie.Else2
+abbrev checked : tie.After-find → tie.Else1
 checked c = c .before .before .before
 
-returns-3 : tie.Need-returns-3
-returns-3 c =
+returns-2 : tie.Need-returns-2
+returns-2 c =
     let f = c .before .before in
     let k = checked f in
     let s = start k in (
-      add-four (s .args .before) (s .args .table .now) (s .args .id) (s .args .capacity) (known (k .before .before)) (sized k)
-          (sym (f .find .ensures .1 .0 (s .args .before .capacities)) ∙ c .before .if3 .taken) (c .refused3 .ensures),
+      add-four (s .args .before) (s .args .table .now) (s .args .id) (s .args .capacity) (inside k)
+          (sym (f .find .ensures .1 .0 (s .args .before .capacities)) ∙ c .before .if2 .taken) (c .refused2 .ensures),
       (s .pre .1, s .pre .2),
     )
 
-absent : (c : tie.Else3) → let a = start (checked (c .before)) .args in present (a .id) (devicesIn (a .before)) ≡ false
-absent c = sym (c .before .find .ensures .1 .0 (start (checked (c .before)) .args .before .capacities)) ∙ c .if3 .left
+absent : (c : tie.Else2) → let a = start (checked (c .before)) .args in present (a .id) (devicesIn (a .before)) ≡ false
+absent c = sym (c .before .find .ensures .1 .0 (start (checked (c .before)) .args .before .capacities)) ∙ c .if2 .left
 
-returns-4 : tie.Need-returns-4
-returns-4 c =
+returns-3 : tie.Need-returns-3
+returns-3 c =
     let x = c .before .before in
     let k = checked (x .before) in
     let s = start k in (
-      add-six (s .args .before) (s .args .table .now) (s .args .id) (s .args .capacity) (known (k .before .before)) (sized k) (absent x) (c .before .if4 .taken)
-          (c .refused4 .ensures),
+      add-six (s .args .before) (s .args .table .now) (s .args .id) (s .args .capacity) (inside k) (absent x) (c .before .if3 .taken)
+          (c .refused3 .ensures),
       (s .pre .1, s .pre .2),
     )
 
 -- the id and the capacity are within their limits
-within : (c : tie.Else2) → Within 0 (device (start c .args .id) (start c .args .capacity))
-within c = inside-limits (start c .args .id) (start c .args .capacity) (known (c .before .before)) (sized c)
+within : (c : tie.Else1) → Within 0 (device (start c .args .id) (start c .args .capacity))
+within c = inside-limits (start c .args .id) (start c .args .capacity) (inside c)
 
 first-requires : tie.Need-first-requires
 first-requires c κs =
@@ -84,20 +72,20 @@ first-requires c κs =
       ((w .above, w .known, w .some, w .most, s .pre .2), (s .pre .0 .idsSize, s .pre .0 .capacitiesSize, s .pre .0 .hasSize)),
     )
 
-returns-5 : tie.Need-returns-5
-returns-5 c =
+returns-4 : tie.Need-returns-4
+returns-4 c =
     let t = c .before .before in
     let k = checked (t .before .before .before) in
     let s = start k in (
-      add-first (s .args .before) (s .args .table .now) (s .args .id) (s .args .capacity) (known (k .before .before)) (sized k) (t .if5 .taken)
+      add-first (s .args .before) (s .args .table .now) (s .args .id) (s .args .capacity) (inside k) (t .if4 .taken)
           (c .first .ensures .0 (stateIn (s .args .before) (s .args .table .now)) (s .args .places) (s .args .work .now) refl refl),
       (s .pre .1, c .first .ensures .1),
     )
 
 -- the row is one of the pool's or the next one, and there is room for it
-fits : (c : tie.Else5) → let f = c .before .before .before in
+fits : (c : tie.Else4) → let f = c .before .before .before in
     (f .find .result .row ≤ start (checked f) .args .before .devices) × (start (checked f) .args .before .devices < 256)
-fits c = (c .before .before .before .find .ensures .0 .most, omega (arith, c .before .if4 .left))
+fits c = (c .before .before .before .find .ensures .0 .most, omega (arith, c .before .if3 .left))
 
 insert-row-requires : tie.Need-insert-row-requires
 insert-row-requires c κs =
@@ -109,10 +97,10 @@ insert-row-requires-2 c κs =
     let s = c .before .before .before .before .before in
     (fits s .0, fits s .1, start (checked (s .before .before .before)) .pre .0 .capacitiesSize)
 
-abbrev some : tie.After-insert-row2 → tie.Else5
+abbrev some : tie.After-insert-row2 → tie.Else4
 some c = c .before .before .before .before .before .before
 
-abbrev found : tie.Else5 → tie.After-find
+abbrev found : tie.Else4 → tie.After-find
 found c = c .before .before .before
 
 -- the devices afterwards
@@ -122,7 +110,7 @@ next : (c : tie.After-insert-row2)
 next c =
     let s = some c in
     let f = found s in
-    next-add (start (checked f) .pre .0) (within (checked f)) (s .before .if4 .left) (f .find .ensures .0) (absent (s .before .before))
+    next-add (start (checked f) .pre .0) (within (checked f)) (s .before .if3 .left) (f .find .ensures .0) (absent (s .before .before))
     (c .before .before .insert-row .ensures) (c .insert-row2 .ensures)
 
 shared-requires : tie.Need-shared-requires
@@ -162,7 +150,7 @@ ready c =
     let g = grown v in
     let s = some g in
     let f = found s in
-    prepared-add (start (checked f) .pre .0) (omega (arith, s .if5 .left)) _ _ (within (checked f)) (s .before .if4 .left) (f .find .ensures .0)
+    prepared-add (start (checked f) .pre .0) (omega (arith, s .if4 .left)) _ _ (within (checked f)) (s .before .if3 .left) (f .find .ensures .0)
     (absent (s .before .before)) (g .before .before .insert-row .ensures) (g .insert-row2 .ensures) (c .insert-row3 .ensures)
     (v .before .before .before .shared .ensures) (v .raise .ensures .0)
 
@@ -172,14 +160,14 @@ settle-requires c κs =
     let v = r .before .before in
     (ready r .merged, v .raise .ensures .1, start (checked (found (some (grown v)))) .pre .2)
 
-returns-6 : tie.Need-returns-6
-returns-6 c =
+returns-5 : tie.Need-returns-5
+returns-5 c =
     let r = c .before .before .before in
     let s = some (grown (r .before .before)) in
     let k = checked (found s) in
     let a = start k .args in (
-      add-settle (a .before) (a .table .now) (a .id) (a .capacity) (known (k .before .before)) (sized k) (absent (s .before .before)) (s .before .if4 .left)
-          (omega (arith, s .if5 .left)) (ready r) (c .settle .ensures .0),
+      add-settle (a .before) (a .table .now) (a .id) (a .capacity) (inside k) (absent (s .before .before)) (s .before .if3 .left)
+          (omega (arith, s .if4 .left)) (ready r) (c .settle .ensures .0),
       c .settle .ensures .1,
     )
 
@@ -190,16 +178,13 @@ add-spec =
     (λ c κs. search needs)
     (λ c κs. search needs)
     returns
-    (λ c κs. search needs)
-    (λ c κs. search needs)
-    returns-2
     find-requires
     (λ c κs. search needs)
-    returns-3
+    returns-2
     (λ c κs. search needs)
-    returns-4
+    returns-3
     first-requires
-    returns-5
+    returns-4
     insert-row-requires
     insert-row-requires-2
     (λ c. search needs)
@@ -208,4 +193,4 @@ add-spec =
     (λ c. search needs)
     insert-row-requires-3
     settle-requires
-    returns-6)
+    returns-5)

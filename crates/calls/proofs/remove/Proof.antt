@@ -9,7 +9,7 @@ use Rattle.slicing.specs.Devices.{present, delete}
 use Rattle.slicing.specs.Limits.{maxId, outside}
 use Rattle.slicing_core.specs.Rows.{at}
 use Rattle.opened.specs.OpenPools.{devicesIn}
-use Rattle.calls.proofs.CallChecks.{open-table, remove-id, remove-five, remove-seven, remove-settle}
+use Rattle.calls.proofs.CallChecks.{open-table, remove-two, remove-five, remove-seven, remove-settle}
 use Rattle.calls.proofs.MergedRows.{Prepared, prepared-remove}
 use Rattle.calls.proofs.NextDevices.{Next, open-few, open-ascending, next-remove}
 use Rattle.calls.proofs.remove.Statement.{statement}
@@ -20,7 +20,7 @@ returns c =
     let w = c .before .before in
     let s = w .before in
     let a = s .args in
-    (remove-id (a .before) (a .table .now) (a .id) (sym (w .outside .ensures) ∙ c .before .if1 .taken) (c .refused .ensures), (s .pre .1, s .pre .2))
+    (remove-two (a .before) (a .table .now) (a .id) (sym (w .outside .ensures) ∙ c .before .if1 .taken) (c .refused .ensures), (s .pre .1, s .pre .2))
 
 abbrev start : tie.Else1 → tie.Start
 start c = c .before .before

@@ -7,10 +7,10 @@ use lib.ListN.{set}
 use borrow.Author.Needs.{needs}
 use borrow.Author.Tests.{not-true, not-false}
 use Rattle.slicing.specs.Devices.{device, update, Within}
-use Rattle.slicing.specs.Limits.{maxId, maxCapacity, outside}
+use Rattle.slicing.specs.Limits.{deviceOutside}
 use Rattle.slicing_core.specs.Rows.{at}
 use Rattle.opened.specs.OpenPools.{devicesIn}
-use Rattle.calls.proofs.CallChecks.{open-table, inside-limits, resize-id, resize-capacity, resize-five, resize-settle}
+use Rattle.calls.proofs.CallChecks.{open-table, inside-limits, resize-two, resize-five, resize-settle}
 use Rattle.calls.proofs.MergedRows.{Prepared, prepared-resize}
 use Rattle.calls.proofs.NextDevices.{Next, open-few, open-ascending, next-resize}
 use Rattle.calls.proofs.resize.Statement.{statement}
@@ -21,71 +21,57 @@ returns c =
     let w = c .before .before in
     let s = w .before in
     let a = s .args in (
-      resize-id (a .before) (a .table .now) (a .id) (a .capacity) (sym (w .outside .ensures) ∙ c .before .if1 .taken) (c .refused .ensures),
+      resize-two (a .before) (a .table .now) (a .id) (a .capacity) (sym (w .device-outside .ensures) ∙ c .before .if1 .taken) (c .refused .ensures),
       (s .pre .1, s .pre .2),
     )
 
--- past the check of the id
-known : (c : tie.Else1) → outside maxId (c .before .before .args .id) ≡ false
-known c = sym (c .before .outside .ensures) ∙ c .if1 .left
+abbrev start : tie.Else1 → tie.Start
+start c = c .before .before
 
-returns-2 : tie.Need-returns-2
-returns-2 c =
-    let w = c .before .before in
-    let s = w .before .before .before in
-    let a = s .args in (
-      resize-capacity (a .before) (a .table .now) (a .id) (a .capacity) (known (w .before)) (sym (w .outside2 .ensures) ∙ c .before .if2 .taken)
-          (c .refused2 .ensures),
-      (s .pre .1, s .pre .2),
-    )
-
-abbrev start : tie.Else2 → tie.Start
-start c = c .before .before .before .before
-
--- past the check of the capacity
-sized : (c : tie.Else2) → outside maxCapacity (start c .args .capacity) ≡ false
-sized c = sym (c .before .outside2 .ensures) ∙ c .if2 .left
+-- past the check of the limits
+inside : (c : tie.Else1) → deviceOutside (start c .args .id) (start c .args .capacity) ≡ false
+inside c = sym (c .before .device-outside .ensures) ∙ c .if1 .left
 
 find-requires : tie.Need-find-requires
 find-requires c κs = let a = start (c .before .before) .pre .0 in (open-few a, open-ascending a)
 
-abbrev checked : tie.After-find → tie.Else2
+abbrev checked : tie.After-find → tie.Else1
 checked c = c .before .before .before
 
-returns-3 : tie.Need-returns-3
-returns-3 c =
+returns-2 : tie.Need-returns-2
+returns-2 c =
     let f = c .before .before .before in
     let k = checked f in
     let s = start k in (
-      resize-five (s .args .before) (s .args .table .now) (s .args .id) (s .args .capacity) (known (k .before .before)) (sized k)
-          (sym (f .find .ensures .1 .0 (s .args .before .capacities)) ∙ not-true (f .find .result .present) (c .before .if3 .taken)) (c .refused3 .ensures),
+      resize-five (s .args .before) (s .args .table .now) (s .args .id) (s .args .capacity) (inside k)
+          (sym (f .find .ensures .1 .0 (s .args .before .capacities)) ∙ not-true (f .find .result .present) (c .before .if2 .taken)) (c .refused2 .ensures),
       (s .pre .1, s .pre .2),
     )
 
-abbrev found : tie.Else3 → tie.After-find
+abbrev found : tie.Else2 → tie.After-find
 found c = c .before .before
 
 -- past that check the device is in its row
-there : (c : tie.Else3) → found c .find .result .present ≡ true
-there c = not-false (found c .find .result .present) (c .if3 .left)
+there : (c : tie.Else2) → found c .find .result .present ≡ true
+there c = not-false (found c .find .result .present) (c .if2 .left)
 
-row : (c : tie.Else3)
+row : (c : tie.Else2)
     → let a = start (checked (found c)) .args in
     (found c .find .result .row < a .before .devices) × (at (a .before .ids) (found c .find .result .row) ≡ a .id)
 row c = found c .find .ensures .1 .1 (there c)
 
 -- a row of the pool is one of the array
-below : (c : tie.Else3) → found c .find .result .row < 256
+below : (c : tie.Else2) → found c .find .result .row < 256
 below c = omega (arith, row c .0, open-few (start (checked (found c)) .pre .0))
 
-within : (c : tie.Else2) → Within 0 (device (start c .args .id) (start c .args .capacity))
-within c = inside-limits (start c .args .id) (start c .args .capacity) (known (c .before .before)) (sized c)
+within : (c : tie.Else1) → Within 0 (device (start c .args .id) (start c .args .capacity))
+within c = inside-limits (start c .args .id) (start c .args .capacity) (inside c)
 
-abbrev held : tie.After-shared → tie.Else3
+abbrev held : tie.After-shared → tie.Else2
 held c = c .before .before .before .before
 
 -- the devices afterwards
-next : (c : tie.Else3)
+next : (c : tie.Else2)
     → let a = start (checked (found c)) .args in
     Next (update (a .id) (a .capacity) (devicesIn (a .before))) (a .before .ids) (set (a .before .capacities) (found c .find .result .row) (a .capacity))
     (a .before .devices)
@@ -120,13 +106,13 @@ settle-requires c κs =
     let r = c .before .before in
     (ready r .merged, r .raise .ensures .1, start (checked (found (held (r .before .before .before .before)))) .pre .2)
 
-returns-4 : tie.Need-returns-4
-returns-4 c =
+returns-3 : tie.Need-returns-3
+returns-3 c =
     let r = c .before .before .before in
     let h = held (r .before .before .before .before) in
     let k = checked (found h) in
     let a = start k .args in (
-      resize-settle (a .before) (a .table .now) (a .id) (a .capacity) (known (k .before .before)) (sized k)
+      resize-settle (a .before) (a .table .now) (a .id) (a .capacity) (inside k)
           (sym (found h .find .ensures .1 .0 (a .before .capacities)) ∙ there h) (ready r) (c .settle .ensures .0),
       c .settle .ensures .1,
     )
@@ -138,15 +124,12 @@ resize-spec =
     (λ c κs. search needs)
     (λ c κs. search needs)
     returns
-    (λ c κs. search needs)
-    (λ c κs. search needs)
-    returns-2
     find-requires
     (λ c κs. search needs)
-    returns-3
+    returns-2
     (λ c. omega (arith, below (c .before)))
     (λ c. below (c .before))
     shared-requires
     raise-requires
     settle-requires
-    returns-4)
+    returns-3)

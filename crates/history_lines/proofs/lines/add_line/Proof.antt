@@ -2,8 +2,7 @@
 use mathlib.Core.Path.{_≡_, sym, _∙_}
 use mathlib.Core.Bool.{false}
 use borrow.Author.Needs.{needs}
-use Rattle.slicing.specs.Limits.{maxId, maxCapacity, outside}
-use Rattle.history_lines.specs.Lines.{deviceOutside}
+use Rattle.slicing.specs.Limits.{maxId, maxCapacity, outside, deviceOutside}
 use Rattle.history_numbers.specs.Text.{numberIn, capacityIn}
 use Rattle.history_lines.specs.declared.lines.LineAnswer.the-variants.{Add}
 use Rattle.history_numbers.specs.declared.numbers.Parsed.{Parsed}

@@ -8,7 +8,7 @@ use borrow.Author.Needs.{needs}
 use Rattle.history_numbers.specs.Text.{point, numberIn}
 use Rattle.history_numbers.specs.declared.numbers.Parsed.the-variants.{Number}
 use Rattle.history_numbers.proofs.Splitting.{part-front, behind, Cut, cut-made}
-use Rattle.history_numbers.proofs.NumberWords.{capacity-none, capacity-whole, capacity-rest, capacity-all}
+use Rattle.history_numbers.proofs.NumberWords.{capacity-none, capacity-whole, capacity-rest, capacity-all, text-size}
 use Rattle.history_numbers.proofs.numbers.thousandths.Statement.{statement}
 use Rattle.history_numbers.proofs.numbers.thousandths.Tie as tie
 
@@ -39,7 +39,7 @@ returns c =
     capacity-none (word f) (f .find .result) (f .find .ensures) (sym (k .number .ensures .0) ∙ c .enum-told .given .1)
 
 mul-t11 : tie.Need-mul-t11
-mul-t11 c = omega (arith, small (c .before .before))
+mul-t11 c = omega (arith, text-size {rest = 0} (small (c .before .before)) (omega arith))
 
 returns-2 : tie.Need-returns-2
 returns-2 c =
@@ -55,13 +55,13 @@ returns-3 c =
     capacity-rest (cut s) (v .whole .given .0 .0) (whole v) (sym (x .fraction .ensures .0) ∙ c .enum-told2 .given .1)
 
 mul-t16 : tie.Need-mul-t16
-mul-t16 c = omega (arith, small (c .before .before .before .before .before .before .before))
+mul-t16 c = omega (arith, text-size {rest = 0} (small (c .before .before .before .before .before .before .before)) (omega arith))
 
 add-t17 : tie.Need-add-t17
 add-t17 c =
     let u = c .before in
     let x = u .before .before in
-    omega (arith, small (x .before .before .before .before), x .fraction .ensures .1 (u .rest .given .0 .0) (u .rest .given .1))
+    omega (arith, text-size (small (x .before .before .before .before)) (x .fraction .ensures .1 (u .rest .given .0 .0) (u .rest .given .1)))
 
 returns-4 : tie.Need-returns-4
 returns-4 c =

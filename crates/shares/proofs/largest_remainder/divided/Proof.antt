@@ -6,10 +6,11 @@ use native.Mathlib.Nat.{zero-add, sub-zero}
 use native.Mathlib.Omega.{arith}
 use borrow.Author.Needs.{needs}
 use Rattle.slicing.specs.LargestRemainder.{floors as floorsOf}
+use Rattle.slicing.proofs.Limits.{product-size}
 use Rattle.slicing_core.specs.Rows.{at, deviceRows}
 use Rattle.slicing_core.proofs.FilledArrays.{FilledTo, filledTo-none, filledTo-put}
 use Rattle.slicing_core.proofs.Rows.{deviceRows-step, deviceRows-end}
-use Rattle.shares.proofs.LargestRemainder.{capacity-most, product-most, floors-most, remainders-rows}
+use Rattle.shares.proofs.LargestRemainder.{capacity-most, floors-most, remainders-rows}
 use Rattle.shares.proofs.largest_remainder.divided.Statement.{statement}
 use Rattle.shares.proofs.largest_remainder.divided.Tie as tie
 
@@ -42,7 +43,7 @@ mul-product-2 : tie.Need-mul-product-2 Inv-loop μ-loop
 mul-product-2 c =
     let s = c .before .before .before in
     let most = capacity-most (s .args .ids .now) (s .args .capacities .now) (s .args .n) (s .pre .0 .2) in
-    omega (arith, product-most (s .pre .0 .1) (most (c .before .before .loop .i) (c .before .loop-test .taken)))
+    omega (arith, product-size (s .pre .0 .1) (most (c .before .before .loop .i) (c .before .loop-test .taken)))
 
 add-given : tie.Need-add-given Inv-loop μ-loop
 add-given c = omega (arith, step (c .before), most (c .before .before .before))

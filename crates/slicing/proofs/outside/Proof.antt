@@ -1,7 +1,7 @@
--- `history_lines::lines::outside` meets its contract: each return by the tests that led there.
+-- `slicing::outside` meets its contract: each return by the tests that led there.
 use borrow.Author.Tests.{lt-ltb, le-ltb}
-use Rattle.history_lines.proofs.lines.outside.Statement.{statement}
-use Rattle.history_lines.proofs.lines.outside.Tie as tie
+use Rattle.slicing.proofs.outside.Statement.{statement}
+use Rattle.slicing.proofs.outside.Tie as tie
 
 returns : tie.Need-returns
 returns c = rw (lt-ltb _ _ (c .if1 .taken))
