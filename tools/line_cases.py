@@ -29,6 +29,8 @@ BAD = [
     "point 1 2 3 4",
     "owner . 1 2",
     "copies . 1 2 3",
+    "report .",
+    "report . 1 2",
     "fresh 10",
     "pool 10 8 0 0 -",
     # numbers
@@ -40,6 +42,7 @@ BAD = [
     f"point 1 2 {LARGEST + 1}",
     f"point 1 2 {10 * LARGEST}",
     "owner . x",
+    "report . -1",
     "copies . 1 1 4294967296 0",
     "copies . 1 1 0 4294967296",
     "write . 32769",
@@ -64,6 +67,7 @@ BAD = [
     "owner .. 1",
     "owner x 1",
     "share x 1",
+    "report x 1",
     "add x 3 1000 4",
     # rows
     "pool 10 8 0 0 00 -",
@@ -88,6 +92,7 @@ def limits():
     yield line("sha1", "00" * size), line(0, sha1(bytes(size)).hexdigest())
     yield line("point", LARGEST, LARGEST, LARGEST), line(2, 0)
     yield line("share", ".", LARGEST), line(2, 0)
+    yield line("report", ".", LARGEST), line(2, 0, 0, 0)
     yield line("remove", ".", 3, 8448), line(5, 0, 0, 8448)
     yield line("remove", ".", 3, LARGEST), line(5, 0, 0, 8448)
     full = Pool(LARGEST, 2**32 - 1, [(65535, 2**32 - 1)] * 256, [(2**32 - 1, 65535)] * 4096, n=LARGEST, q=LARGEST)
@@ -98,10 +103,13 @@ def limits():
 
 
 def images():
-    """A share and what is written of a pool given as its image, and of what a refused image gives."""
+    """A share, a report and what is written of a pool given as its image, and of what a refused image gives."""
     yield line("share", IMAGE, 1), line(0, 5)
     yield line("share", IMAGE, 3), line(5, 0)
     yield line("share", "-", 1), line(5, 0)
+    yield line("report", IMAGE, 1), line(0, 5, 0, 0)
+    yield line("report", IMAGE, 3), line(5, 0, 0, 0)
+    yield line("report", "-", 1), line(5, 0, 0, 0)
     for given, made in ((IMAGE, POOL.image()), ("-", Pool(1, 1, [], []).image())):
         buffer = made + bytes([170] * (32768 - len(made)))
         yield line("reread", given), line(0, len(made), sha1(buffer).hexdigest(), 0, sha1(made).hexdigest())

@@ -3,8 +3,9 @@
 
 usage: tools/vectors_to_antt.py VECTORS > crates/slicing/proofs/Vectors.antt
 
-Each add, remove and resize becomes a case with its whole answer, and each history of at most 60 lines a list of its changes with
-the three numbers printed for each and the table at the end. Lines that are refused for their text (1 and 3) are left out.
+Each add, remove and resize becomes a case with its whole answer, and so does each report; each history of at most 60 lines becomes a
+list of its changes with the three numbers printed for each and the table at the end. Lines that are refused for their text (1 and 3)
+are left out.
 """
 import re
 import sys
@@ -60,6 +61,18 @@ def calls(vectors):
         )
 
 
+def signed(text):
+    x = int(text)
+    return f"(pos {x})" if x >= 0 else f"(negsuc {-x - 1})"
+
+
+def reports(vectors):
+    for place, (words, answer) in enumerate(vectors.calls("report"), 1):
+        size, _, devices, _ = pool(words[1])
+        ds = listed([f"device {d} {c}" for d, c in devices])
+        yield f"-- {place}", f"report {size} ({ds}) {words[2]}", f"told {' '.join(answer[:3])} {signed(answer[3])}"
+
+
 def thousandths(text):
     whole, _, rest = text.partition(".")
     return str(int(whole) * 1000 + int((rest + "000")[:3]))
@@ -86,15 +99,18 @@ HEAD = """-- The definitions against the outside: changes made by a reference pr
 -- here and compared. Written by tools/vectors_to_antt.py.
 --
 --   direct-calls    the adds, removes and resizes of calls.in and own.in, with the whole answer
+--   direct-reports  their reports, with the whole answer
 --   history-NAME    the changes of the history NAME.in, with what is printed of each and the table at the end
 use mathlib.Core.Path.{_≡_, refl}
 use mathlib.Core.List.{List, [], _∷_}
 use Prim.Native.Nat.{ℕ}
+use lib.IntN.{ℤ, pos, negsuc}
 use lib.ListN.{replicate}
 use Rattle.slicing.specs.Changes.{State, fresh, Change, add, remove, resize, Outcome, change}
 use Rattle.slicing.specs.Claims.{written}
 use Rattle.slicing.specs.Devices.{device}
 use Rattle.slicing.specs.LargestRemainder.{largestRemainder}
+use Rattle.slicing.specs.Reports.{Report, report}
 use Rattle.slicing.specs.Runs.{Run, _of_}
 use Rattle.slicing.specs.ShareRule.{shares}
 use Rattle.slicing.specs.SixSteps.{turns, Move, move}
@@ -112,6 +128,10 @@ seenOf o = seen (o .number) (o .moved) (o .count) (written o) (o .state)
 
 called : State → Change → ℕ → Answer
 called s k n = seenOf (change s (places n) k)
+
+-- the refusal number, the whole number, the remainder, the difference
+told : ℕ → ℕ → ℕ → ℤ → Report
+told n w r x = record { number = n; whole = w; remainder = r; difference = x }
 
 -- what is printed of a line
 data Printed : Type 0 where
@@ -131,18 +151,24 @@ replay s (k ∷ ks) =
 """
 
 
+def listing(name, kind, cases, opened):
+    """The calls of the cases as one list, equal to that of their answers."""
+    found = list(cases)
+    yield f"{name} :\n    _≡_ {{A = List {kind}}} ("
+    for note, call, _ in found:
+        yield f"    {note}\n    {call}\n    ∷"
+    yield "    []) ("
+    for note, _, answer in found:
+        yield f"    {note}\n    {answer}\n    ∷"
+    yield f"    [])\n{opened}\n{name} = refl\n"
+
+
 def main():
     vectors = Vectors(sys.argv[1])
     out = [HEAD]
     opened = "unfolding seenOf called change turns shares largestRemainder"
-    found = list(calls(vectors))
-    out.append("direct-calls :\n    _≡_ {A = List Answer} (")
-    for note, call, _ in found:
-        out.append(f"    {note}\n    {call}\n    ∷")
-    out.append("    []) (")
-    for note, _, answer in found:
-        out.append(f"    {note}\n    {answer}\n    ∷")
-    out.append(f"    [])\n{opened}\ndirect-calls = refl\n")
+    out += listing("direct-calls", "Answer", calls(vectors), opened)
+    out += listing("direct-reports", "Report", reports(vectors), "unfolding told shares largestRemainder")
     for path in vectors.histories:
         if path.read_bytes().count(b"\n") > MOST_LINES:
             continue

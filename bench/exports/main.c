@@ -1,6 +1,6 @@
 /* Calls of libgorvyts.a on the pool that a history leaves: exports CALL COUNT < HISTORY. CALL is `resize` (of a
- * device to and fro, image to image), `remove_add` (of that device, in turn), `check`, `owner`, `open` or
- * `owner_in`; the pool is made first, and opened for `owner_in`, so that a run with COUNT 0 has all but the
+ * device to and fro, image to image), `remove_add` (of that device, in turn), `check`, `share`, `report`, `owner`,
+ * `open` or `owner_in`; the pool is made first, and opened for `owner_in`, so that a run with COUNT 0 has all but the
  * calls. Prints the last answer. Ends with 1 where a call is refused. */
 #include <inttypes.h>
 #include <stdio.h>
@@ -25,6 +25,7 @@ int main(int argc, char **argv)
         return 2;
     const char *call = argv[1];
     uint64_t count = strtoull(argv[2], NULL, 10), answer[3] = {0, 0, 0};
+    int64_t difference = 0;
     size_t size = fread(text, 1, sizeof text, stdin);
     uint32_t number = gorvyts_replay(text, size, images[0], sizeof images[0], answer, 3);
     size_t length = answer[0];
@@ -53,6 +54,10 @@ int main(int argc, char **argv)
             number = gorvyts_pool_open(&pool, images[0], length);
         else if (strcmp(call, "owner_in") == 0)
             number = gorvyts_pool_owner(&pool, point, answer);
+        else if (strcmp(call, "share") == 0)
+            number = gorvyts_share(images[0], length, id, answer, 1);
+        else if (strcmp(call, "report") == 0)
+            number = gorvyts_report(images[0], length, id, answer, 2, &difference);
         else
             return 2;
     }

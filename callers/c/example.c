@@ -1,5 +1,6 @@
 /* Replays a history, lists the devices and the intervals, asks for shares, for owners and for copies, also of the
- * opened pool, adds a device and lists the moves, and adds the largest disk and one that is too large. */
+ * opened pool, adds a device and lists the moves, adds the largest disk and one that is too large, and asks for the
+ * reports on three equal devices that share 100 points. */
 #include <inttypes.h>
 #include <stdio.h>
 #include <string.h>
@@ -37,6 +38,7 @@ static const char *sentence(uint32_t number)
 int main(void)
 {
     uint64_t answer[4];
+    int64_t difference;
     uint32_t tally[2] = {0, 0}, row[10], number;
 
     if (gorvyts_transcript((const uint8_t *)history, strlen(history), out, sizeof out, answer, 3) != 0)
@@ -104,6 +106,16 @@ int main(void)
     for (uint64_t capacity = GORVYTS_CAPACITY_MOST; capacity <= GORVYTS_CAPACITY_MOST + 1; capacity++) {
         number = gorvyts_add(image, length, 4, capacity, next, sizeof next, list, sizeof list / sizeof *list, answer, 3);
         printf("add 4 of %" PRIu64 ": %" PRIu32 ", %s, %" PRIu64 " points\n", capacity, number, sentence(number), answer[1]);
+    }
+
+    static const char three[] = "range 100 16\nadd 1 1\nadd 2 1\nadd 3 1\n";
+    if (gorvyts_replay((const uint8_t *)three, strlen(three), image, sizeof image, answer, 3) != 0)
+        return 1;
+    length = answer[0];
+    for (uint64_t id = 1; id <= 4; id++) {
+        number = gorvyts_report(image, length, id, answer, 2, &difference);
+        printf("report on %" PRIu64 ": %" PRIu32 ", %s, due %" PRIu64 " and a remainder of %" PRIu64 ", difference %" PRId64 "\n",
+               id, number, sentence(number), answer[0], answer[1], difference);
     }
     return 0;
 }

@@ -13,10 +13,10 @@
  * numbers may be stored again, unchanged). Bytes past a written image stay, and so do the places of a
  * list past its moves and of rows past the last one.
  *
- * Stack: measured on x86-64 (callers/c/stack.c), the changes need 440 KB, gorvyts_replay 360,
- * gorvyts_transcript 340, gorvyts_share 290, gorvyts_open and the lookups on an image 260, gorvyts_check,
- * gorvyts_numbers, gorvyts_devices and gorvyts_intervals 240, gorvyts_fresh 90, gorvyts_owner_in and
- * gorvyts_copies_in 4. A thread of 256 KB is too small for most of them: it ends the process.
+ * Stack: measured on x86-64 (callers/c/stack.c), the changes need 380 KB, gorvyts_replay 360,
+ * gorvyts_transcript 340, gorvyts_open and the lookups on an image 180, gorvyts_check, gorvyts_numbers,
+ * gorvyts_share, gorvyts_report, gorvyts_devices and gorvyts_intervals 160, gorvyts_fresh 90, gorvyts_owner_in and
+ * gorvyts_copies_in 4. A thread of 256 KB is too small for the first three: it ends the process.
  *
  * Cost: every call on an image reads and checks all of it, which takes far longer than the lookup itself; a
  * single gorvyts_owner or gorvyts_copies takes as long as some hundred blocks of gorvyts_copies_of_many,
@@ -42,7 +42,7 @@ enum {
     GORVYTS_OUTSIDE_LIMITS = 2,   /* a number outside its limits, or too many bytes */
     GORVYTS_LINE_ORDER = 3,       /* a change before a range line, or a second range line */
     GORVYTS_ID_PRESENT = 4,       /* add: the id is present */
-    GORVYTS_ID_ABSENT = 5,        /* remove, resize, share: the id is absent */
+    GORVYTS_ID_ABSENT = 5,        /* remove, resize, share, report: the id is absent */
     GORVYTS_TOO_MANY_DEVICES = 6, /* add: 256 devices are present */
     GORVYTS_ONLY_DEVICE = 7,      /* remove: it is the only device */
     GORVYTS_TOO_MANY_INTERVALS = 8, /* a change: the new table has over M intervals */
@@ -90,6 +90,15 @@ uint32_t gorvyts_numbers(const uint8_t *image, size_t image_size, uint64_t *answ
 /* The share of a device. answer[0]: its points.
  * Refusals: 14, 15, 16; 2 where the id is not within 1 to 65,535; 5; 17. */
 uint32_t gorvyts_share(const uint8_t *image, size_t image_size, uint64_t id, uint64_t *answer, size_t answer_size);
+
+/* The report on a device: what it is exactly due, R × c / C with C the sum of all capacities, and how far its share
+ * lies from that. answer[0]: R × c divided by C as a whole number, answer[1]: the remainder; difference, one number
+ * with a sign: share × C − R × c. It is 0 exactly where the remainder is 0 and lies strictly between −C and C, and
+ * the differences of all devices add up to 0.
+ * Refusals: 14, 15, 16; 2 where the id is not within 1 to 65,535; 5; then answer[0], answer[1] and the difference
+ * are 0. 17 where the answer has under 2 places; then the difference stays as well. */
+uint32_t gorvyts_report(const uint8_t *image, size_t image_size, uint64_t id, uint64_t *answer, size_t answer_size,
+                        int64_t *difference);
 
 /* The devices of a pool by rising id, three numbers each in `rows`: id, capacity in thousandths of a TB, share.
  * rows_size counts numbers; answer[2] of gorvyts_numbers is the number of rows.

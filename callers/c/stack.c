@@ -18,12 +18,13 @@ static const char history[] =
 
 static const char *const names[] = {
     "check", "fresh", "replay", "transcript", "add", "remove", "resize", "owner", "copies", "copies_of_many", "open", "owner_in", "copies_in",
-    "numbers", "share", "devices", "intervals",
+    "numbers", "share", "report", "devices", "intervals",
 };
 
 static uint8_t image[GORVYTS_IMAGE_MOST], next[GORVYTS_IMAGE_MOST], out[GORVYTS_TRANSCRIPT_ROOM];
 static uint64_t list[4 * GORVYTS_MOVES_MOST], answer[4];
 static uint32_t tally[2], row[10];
+static int64_t difference;
 static struct gorvyts_pool pool;
 static size_t length;
 
@@ -48,7 +49,8 @@ static uint32_t call(int which)
     case 12: return gorvyts_pool_copies(&pool, 7, 2, tally, row);
     case 13: return gorvyts_numbers(image, length, answer, 4);
     case 14: return gorvyts_share(image, length, 3, answer, 1);
-    case 15: return gorvyts_devices(image, length, list, places);
+    case 15: return gorvyts_report(image, length, 3, answer, 2, &difference);
+    case 16: return gorvyts_devices(image, length, list, places);
     default: return gorvyts_intervals(image, length, list, places);
     }
 }
@@ -85,7 +87,7 @@ int main(void)
     if (gorvyts_replay((const uint8_t *)history, strlen(history), image, sizeof image, answer, 3) != 0)
         return 1;
     length = answer[0];
-    for (int which = 0; which < 17; which++) {
+    for (int which = 0; which < 18; which++) {
         size_t bytes = taken(which);
         if (bytes == 0)
             return 1;

@@ -63,6 +63,19 @@ pub struct DeviceRow {
     pub share: u64,
 }
 
+/// How far the share of a device lies from what it is exactly due: R × c / C, where c is its capacity and C the sum of
+/// all capacities.
+#[derive(Clone, Copy, Debug, PartialEq, Eq, Hash)]
+pub struct Report {
+    /// R × c divided by C, as a whole number.
+    pub whole: u64,
+    /// The remainder of that division.
+    pub remainder: u64,
+    /// share × C − R × c: 0 exactly where the remainder is 0, and strictly between −C and C. Those of all devices of
+    /// a pool add up to 0.
+    pub difference: i64,
+}
+
 /// An interval of a pool's table.
 #[derive(Clone, Copy, Debug, PartialEq, Eq, Hash)]
 pub struct IntervalRow {
@@ -136,6 +149,14 @@ impl Image {
         let mut answer = [0];
         Refusal::unless_accepted(calls::share(&self.bytes, id, &mut answer))?;
         Ok(answer[0])
+    }
+
+    /// What a device is exactly due, and how far its share lies from that. Refusals: 2, 5.
+    pub fn report(&self, id: u64) -> Result<Report, Refusal> {
+        let (mut answer, mut difference) = ([0; 2], 0);
+        Refusal::unless_accepted(calls::report(&self.bytes, id, &mut answer, &mut difference))?;
+        let [whole, remainder] = answer;
+        Ok(Report { whole, remainder, difference })
     }
 
     /// The devices, by rising id.

@@ -12,6 +12,7 @@
 //! assert_eq!(change.moved, 50);
 //! assert_eq!(change.image.owner(99), Ok(2));
 //! assert_eq!(change.image.share(2), Ok(50));
+//! assert_eq!(change.image.report(2)?.difference, 0);
 //! assert_eq!(change.image.intervals()[1], IntervalRow { start: 50, length: 50, owner: 2 });
 //!
 //! let mut tally = Tally::default();
@@ -36,5 +37,7 @@ mod image;
 mod raw;
 mod refusal;
 
-pub use image::{transcript, Change, Copies, DeviceRow, Image, IntervalRow, Move, Numbers, Opened, Tally};
+pub use image::{
+    transcript, Change, Copies, DeviceRow, Image, IntervalRow, Move, Numbers, Opened, Report, Tally,
+};
 pub use refusal::Refusal;

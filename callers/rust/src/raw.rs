@@ -49,6 +49,15 @@ extern "C" {
         answer_size: usize,
     ) -> u32;
 
+    fn gorvyts_report(
+        image: *const u8,
+        image_size: usize,
+        id: u64,
+        answer: *mut u64,
+        answer_size: usize,
+        difference: *mut i64,
+    ) -> u32;
+
     fn gorvyts_devices(image: *const u8, image_size: usize, rows: *mut u64, rows_size: usize) -> u32;
 
     fn gorvyts_intervals(image: *const u8, image_size: usize, rows: *mut u64, rows_size: usize) -> u32;
@@ -209,6 +218,15 @@ pub fn numbers(image: &[u8], answer: &mut [u64]) -> u32 {
 pub fn share(image: &[u8], id: u64, answer: &mut [u64]) -> u32 {
     // SAFETY: each pointer and count are those of one slice; the image is only read, the answer is exclusive.
     unsafe { gorvyts_share(image.as_ptr(), image.len(), id, answer.as_mut_ptr(), answer.len()) }
+}
+
+/// Writes the report on a device: to `answer[0]` what it is exactly due, R × c divided by C as a whole number, to
+/// `answer[1]` the remainder, to `difference` share × C − R × c. Refusals: 14, 15, 16, 2, 5, then all three are 0;
+/// 17 for an answer of under two places, then the difference stays as well.
+pub fn report(image: &[u8], id: u64, answer: &mut [u64], difference: &mut i64) -> u32 {
+    // SAFETY: each pointer and count are those of one slice; the image is only read, the answer and the difference
+    // are exclusive.
+    unsafe { gorvyts_report(image.as_ptr(), image.len(), id, answer.as_mut_ptr(), answer.len(), difference) }
 }
 
 /// Writes three numbers for each device, by rising id: id, capacity, share. Refusals: 14, 15, 16, 17; then the

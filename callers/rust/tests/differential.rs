@@ -65,7 +65,7 @@ fn number(variable: &str) -> Option<u64> {
 
 /// What each call can return, and what can stand in a row and in a line of a transcript. A move list of 4,096
 /// places, as transcripts have it, is enough for all histories here, so that no line gets 9.
-const CAN_OCCUR: [(&str, &[u32]); 19] = [
+const CAN_OCCUR: [(&str, &[u32]); 20] = [
     ("check", &[0, 14, 15, 16]),
     ("fresh", &[0, 2, 17]),
     ("replay", &[0, 2, 17]),
@@ -83,6 +83,7 @@ const CAN_OCCUR: [(&str, &[u32]); 19] = [
     ("copies_in", &[0, 10, 11, 12, 17]),
     ("numbers", &[0, 14, 15, 16, 17]),
     ("share", &[0, 2, 5, 14, 15, 16, 17]),
+    ("report", &[0, 2, 5, 14, 15, 16, 17]),
     ("devices", &[0, 14, 15, 16, 17]),
     ("intervals", &[0, 14, 15, 16, 17]),
 ];
@@ -125,6 +126,12 @@ impl Place for u32 {
 impl Place for u64 {
     fn of(number: u64) -> u64 {
         number
+    }
+}
+
+impl Place for i64 {
+    fn of(number: u64) -> i64 {
+        number as i64
     }
 }
 
@@ -365,9 +372,16 @@ impl Trial {
         let table = pool.table.iter();
         let rows = table.map(|i| IntervalRow { start: i.start, length: i.length, owner: i.owner });
         assert!(rows.eq(intervals.iter().copied()));
+        let mut sum = 0;
         for row in devices {
             assert_eq!(image.share(row.id), Ok(row.share));
+            let (report, due) = (image.report(row.id).unwrap(), pool.report(row.id).unwrap());
+            assert_eq!((report.whole, report.remainder), (due.whole, due.remainder));
+            assert_eq!(report.difference, due.difference);
+            assert_eq!(report.difference == 0, report.remainder == 0);
+            sum += report.difference;
         }
+        assert_eq!(sum, 0);
     }
 
     /// The calls that tell of a pool, with any bytes in the place of its image; the pool is that from which they
@@ -383,6 +397,8 @@ impl Trial {
         };
         let answer = answer_size(random, 1);
         self.share(random, bytes, id, answer);
+        let answer = answer_size(random, 2);
+        self.report(random, bytes, id, answer);
         let rows = random.size_near(3 * pool.devices.len());
         self.devices(random, bytes, rows);
         let rows = random.size_near(3 * pool.table.len());
@@ -655,6 +671,24 @@ impl Trial {
         let number = (calls::share(&lent, id, answer.lend()), expected::share(bytes, id, answer2.lend()));
         let apart = [answer.apart("answer", &answer2), changed("image", &lent, bytes)];
         self.told("share", number, apart, || format!("id {id}, image {}", hex(bytes)));
+    }
+
+    fn report(&mut self, random: &mut Random, bytes: &[u8], id: u64, answer: usize) {
+        let lent = bytes.to_vec();
+        let mut answer = Lent::new(random, answer);
+        let mut answer2 = answer.clone();
+        let mut difference = Lent::new(random, 1);
+        let mut difference2 = difference.clone();
+        let number = (
+            calls::report(&lent, id, answer.lend(), &mut difference.lend()[0]),
+            expected::report(bytes, id, answer2.lend(), &mut difference2.lend()[0]),
+        );
+        let apart = [
+            answer.apart("answer", &answer2),
+            difference.apart("difference", &difference2),
+            changed("image", &lent, bytes),
+        ];
+        self.told("report", number, apart, || format!("id {id}, image {}", hex(bytes)));
     }
 
     fn devices(&mut self, random: &mut Random, bytes: &[u8], rows: usize) {

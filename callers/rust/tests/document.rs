@@ -4,7 +4,7 @@
 mod reference;
 
 use gorvyts::calls::CAPACITY_MOST;
-use gorvyts::{Copies, DeviceRow, Image, IntervalRow, Move, Numbers, Refusal, Tally};
+use gorvyts::{Copies, DeviceRow, Image, IntervalRow, Move, Numbers, Refusal, Report, Tally};
 use reference::history;
 use reference::lookup::point_of_word;
 use reference::pool::{self, shares, Device, Pool};
@@ -131,6 +131,26 @@ fn capacities_at_the_limit() -> Result<(), Refusal> {
         let text = format!("range 100 16\nadd 1 {line}\n");
         let printed = String::from_utf8(gorvyts::transcript(text.as_bytes())).unwrap();
         assert_eq!(printed.lines().nth(1), Some(format!("2 {expected} 0 0").as_str()));
+    }
+    Ok(())
+}
+
+#[test]
+fn reports_on_three_equal() -> Result<(), Refusal> {
+    let three = Image::replay(b"range 100 16\nadd 1 1\nadd 2 1\nadd 3 1\n")?;
+    let due = |difference| Report { whole: 33, remainder: 1_000, difference };
+    assert_eq!([1, 2, 3].map(|id| three.report(id)), [2_000, -1_000, -1_000].map(|x| Ok(due(x))));
+    assert_eq!(three.report(4), Err(Refusal::IdAbsent));
+    assert_eq!([0, 65_536, u64::MAX].map(|id| three.report(id)), [Err(Refusal::OutsideLimits); 3]);
+
+    let (mut answer, mut difference) = ([7; 3], -7);
+    let bytes = three.as_bytes();
+    assert_eq!(gorvyts::calls::report(bytes, 1, &mut answer[..1], &mut difference), 17);
+    assert_eq!((answer, difference), ([7; 3], -7));
+    for (bytes, id, expected) in [(bytes, 4, 5), (bytes, 0, 2), (&bytes[1..], 1, 14)] {
+        (answer, difference) = ([7; 3], -7);
+        assert_eq!(gorvyts::calls::report(bytes, id, &mut answer, &mut difference), expected);
+        assert_eq!((answer, difference), ([0, 0, 7], 0));
     }
     Ok(())
 }

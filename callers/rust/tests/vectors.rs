@@ -11,7 +11,7 @@ use std::path::{Path, PathBuf};
 use gorvyts::calls::{self, IMAGE_MOST};
 use gorvyts::{Image, Refusal};
 use reference::lookup::{self, Tally};
-use reference::pool::{Changed, Pool};
+use reference::pool::{Changed, Pool, Report};
 use reference::{history, image, sha1};
 
 fn folder(test: &str) -> Option<PathBuf> {
@@ -102,6 +102,7 @@ fn by_reference(words: &[&str]) -> String {
             let owners = copies.owners.map(|owner| owner.to_string()).join(" ");
             format!("{} {owners} {} {} {}", copies.number, copies.tries, tally.lookups, tally.tries)
         }
+        ["report", pool, id] => reported(read(pool).report(number(id))),
         ["add", pool, id, capacity, places] => {
             let pool = read(pool);
             changed(&pool, pool.add(number(id), number(capacity), number(places) as usize))
@@ -166,6 +167,20 @@ fn by_the_library(words: &[&str]) -> Option<String> {
             let row = row.map(|number| number.to_string()).join(" ");
             format!("{row} {} {}", tally[0], tally[1])
         }
+        ["report", pool, id] => {
+            let (pool, id) = (unhex(pool), number(id));
+            let (mut answer, mut difference) = ([7; 2], 7);
+            let refusal = calls::report(&pool, id, &mut answer, &mut difference);
+            let report = Image::check(pool).unwrap().report(id);
+            match report {
+                Ok(report) => {
+                    assert_eq!((refusal, [report.whole, report.remainder]), (0, answer));
+                    assert_eq!(report.difference, difference);
+                }
+                Err(number) => assert_eq!(number.number(), refusal),
+            }
+            format!("{refusal} {} {} {difference}", answer[0], answer[1])
+        }
         ["add", pool, id, capacity, places] => {
             let pool = unhex(pool);
             changed_by_the_library(&pool, places, |next, list, answer| {
@@ -214,6 +229,13 @@ fn one(result: Result<u64, u32>) -> String {
     match result {
         Ok(value) => format!("0 {value}"),
         Err(number) => format!("{number} 0"),
+    }
+}
+
+fn reported(result: Result<Report, u32>) -> String {
+    match result {
+        Ok(Report { whole, remainder, difference }) => format!("0 {whole} {remainder} {difference}"),
+        Err(number) => format!("{number} 0 0 0"),
     }
 }
 

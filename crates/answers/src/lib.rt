@@ -11,6 +11,14 @@ pub fn put1(answer: &mut [u64], x: u64)
     answer[0] = x;
 }
 
+pub fn put2(answer: &mut [u64], x: u64, y: u64)
+    requires { ⌜ 2 ≤ length (now answer) ⌝ }
+    ensures { λ r. ⌜ now (answer .exit) ≡ x ∷ y ∷ drop 2 (now (answer .entry)) ⌝ }
+{
+    answer[0] = x;
+    answer[1] = y;
+}
+
 pub fn put3(answer: &mut [u64], x: u64, y: u64, z: u64)
     requires { ⌜ 3 ≤ length (now answer) ⌝ }
     ensures { λ r. ⌜ now (answer .exit) ≡ x ∷ y ∷ z ∷ drop 3 (now (answer .entry)) ⌝ }

@@ -26,4 +26,5 @@ pub use making::gorvyts_transcript;
 pub use rows::gorvyts_devices;
 pub use rows::gorvyts_intervals;
 pub use rows::gorvyts_numbers;
+pub use rows::gorvyts_report;
 pub use rows::gorvyts_share;

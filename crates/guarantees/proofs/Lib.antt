@@ -10,5 +10,6 @@ pub mod Images
 pub mod Histories
 pub mod Exports
 pub mod ExportedRows
+pub mod Reports
 pub mod Rules
 pub mod MarkedExamples

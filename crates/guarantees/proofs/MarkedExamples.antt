@@ -10,11 +10,11 @@ use borrow.Author.Tests.{le-ltb}
 use Rattle.sha1_blocks.specs.Fips180.{bytes, digest}
 use Rattle.slicing.specs.Changes.{State, fresh, Change, add, remove, resize, Outcome, change}
 use Rattle.slicing.specs.Claims.{written}
-use Rattle.slicing.specs.Devices.{Device, device}
+use Rattle.slicing.specs.Devices.{device}
 use Rattle.slicing.specs.Runs.{_of_}
 use Rattle.slicing.specs.ShareRule.{shares}
 use Rattle.slicing.specs.SixSteps.{move}
-use Rattle.slicing.proofs.Cases.{places}
+use Rattle.slicing.proofs.Cases.{places, threeDevices}
 use Rattle.pools.specs.Pools.{stateOf, ValidPool}
 use Rattle.valid_pools.specs.Promises.{Shared}
 use Rattle.pools.specs.declared.Pool.{Pool}
@@ -56,12 +56,8 @@ K4 r s k l = (k .answer ∙ marked .K4 .0, l .answer ∙ marked .K4 .1)
 
 -- ---- shares
 
--- three devices of one capacity
-abbrev pub threeEqual : List Device
-threeEqual = device 1 1000 ∷ device 2 1000 ∷ device 3 1000 ∷ []
-
 -- R = 100, three equal: shares 34, 33, 33
-pub K5 : (p : Pool) → ValidPool p → stateOf p .range ≡ 100 → stateOf p .devices ≡ threeEqual
+pub K5 : (p : Pool) → ValidPool p → stateOf p .range ≡ 100 → stateOf p .devices ≡ threeDevices
     → (r s t : ShareAnswer) → Shared p 1 r → Shared p 2 s → Shared p 3 t → (r ≡ Share 34) × (s ≡ Share 33) × (t ≡ Share 33)
 K5 p v e f r s t k l m =
     let a = marked .K5 in

@@ -1,7 +1,7 @@
 -- What a call on an image answers, from what the read of the image answered.
 --
 -- on-image-refused (a refused read gives its number), on-image-valid (an accepted read gives a valid pool), on-image-accepted (and that
--- of the image's state); on-image-number (the number of the read)
+-- of the image's state); on-image-number (the number of the read); on-image-from (what is made of another answer on the same image)
 use mathlib.Core.Path.{_≡_, ap, _∙_}
 use mathlib.Core.List.{List}
 use Prim.Native.Nat.{ℕ, _≤_, _<_}
@@ -9,6 +9,7 @@ use native.Mathlib.Omega.{arith}
 use Rattle.slicing.specs.Changes.{State}
 use Rattle.pools.specs.Pools.{stateOf, ValidPool}
 use Rattle.pools.specs.declared.PoolAnswer.{PoolAnswer}
+use Rattle.image_numbers.specs.Format.{stateIn}
 use Rattle.images.specs.Promises.{ReadAs, unmarked, versioned, faulty, accepted}
 use Rattle.images.proofs.RoundTrips.{read-accepted, accepted-state, accepted-valid}
 use Rattle.images.specs.OnImages as Calls
@@ -35,3 +36,11 @@ on-image-number xs made (unmarked h e) = Calls.unmarked h (ap (λ a. a .refusal)
 on-image-number xs made (versioned h v e) = Calls.versioned h v (ap (λ a. a .refusal) e)
 on-image-number xs made (faulty h v s e) = Calls.faulty h v s (ap (λ a. a .refusal) e)
 on-image-number xs made (accepted i e) = Calls.accepted i (ap (λ a. a .refusal) e)
+
+module _ {A B : Type 0} {xs : List ℕ} {f : ℕ → A} {g : State → A} {r : A} (h : A → B) (u : ℕ → B) (v : State → B)
+    (refused : (n : ℕ) → 0 < n → h (f n) ≡ u n) (done : (s : State) → h (g s) ≡ v s) where
+  pub on-image-from : OnImage xs f g r → OnImage xs u v (h r)
+  on-image-from (Calls.unmarked m e) = Calls.unmarked m (ap h e ∙ refused 14 (omega arith))
+  on-image-from (Calls.versioned m w e) = Calls.versioned m w (ap h e ∙ refused 15 (omega arith))
+  on-image-from (Calls.faulty m w s e) = Calls.faulty m w s (ap h e ∙ refused 16 (omega arith))
+  on-image-from (Calls.accepted i e) = Calls.accepted i (ap h e ∙ done (stateIn xs))

@@ -3,7 +3,7 @@
 --   OpenedMemory, openedAs       what opening an image leaves; from the state that the image gives
 --   OwnedIn, CopiedOneIn         the lookups on the arrays of an opened pool, of any contents
 use mathlib.Core.Path.{_≡_}
-use mathlib.Core.List.{List, [], _∷_, _++_}
+use mathlib.Core.List.{List, _∷_, _++_}
 use Prim.Native.Nat.{ℕ, _≤_, _<_, min}
 use lib.ListN.{length, drop}
 use Rattle.slicing.specs.Changes.{State}

@@ -1,6 +1,5 @@
 -- The parts of a share by largest remainder on rows of devices.
 --
--- capacities: capacity-most, some-capacities, sum-most
 -- rank: rank-step, rank-end (a loop over the rows), rank-rows (it is the rules')
 -- floors: floors-most, remainders-rows
 -- share: floor-most, share-more, share-same, rows-shares
@@ -11,31 +10,16 @@ use native.Mathlib.Nat.{div-le-self, le-trans}
 use native.Mathlib.Numerals.{add-one}
 use native.Mathlib.Omega.{arith}
 use borrow.Author.Tests.{lt-ltb, le-ltb}
-use Rattle.slicing.specs.Devices.{Device, device, capacities, Rising}
+use Rattle.slicing.specs.Devices.{Device, device, capacities}
 use Rattle.slicing.specs.LargestRemainder.{before, floors, share, sharesOf, largestRemainder}
 use Rattle.slicing.specs.LargestRemainder as Rule
 use Rattle.slicing.specs.Limits.{maxRange, maxCapacity}
 use Rattle.slicing.specs.Runs.{one}
-use Rattle.slicing.proofs.Devices.{rising-capacities}
 use Rattle.slicing.proofs.LargestRemainder.{lex, floors-le}
-use Rattle.slicing.proofs.Limits.{product-size, sum-size}
+use Rattle.slicing.proofs.Limits.{product-size}
 use Rattle.slicing_core.specs.Rows.{at, rows, deviceRows}
 use Rattle.shares.specs.LargestRemainder.{Remainders, rank}
-use Rattle.slicing_core.proofs.DeviceRows.{within-rising}
 use Rattle.slicing_core.proofs.FilledArrays.{FilledTo}
-use Rattle.slicing_core.proofs.Rows.{length-deviceRows}
-
--- ---- capacities of devices within their limits
-
-module _ (ids caps : List ℕ) (n : ℕ) (r : Rising 0 (deviceRows ids caps 0 n)) where
-  pub capacity-most : (i : ℕ) → i < n → at caps i ≤ maxCapacity
-  capacity-most i l = within-rising ids caps n r i l .most
-
-  pub some-capacities : 1 ≤ n → 1 ≤ capacities (deviceRows ids caps 0 n)
-  some-capacities l = omega (arith, rising-capacities 0 (deviceRows ids caps 0 n) r, length-deviceRows ids caps 0 n)
-
-  pub sum-most : n ≤ 256 → capacities (deviceRows ids caps 0 n) ≤ 4096000000
-  sum-most l = sum-size (deviceRows ids caps 0 n) r (omega (arith, length-deviceRows ids caps 0 n))
 
 -- ---- the rank
 

@@ -1,1 +1,2 @@
+pub mod DeviceCapacities
 pub mod LargestRemainder

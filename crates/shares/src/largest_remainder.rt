@@ -1,4 +1,5 @@
 // Shares by largest remainder.
+use crate::capacities::sum;
 use slicing::MAX_DEVICES;
 ghost use mathlib.Core.Path.{_≡_};
 ghost use Prim.Native.Nat.{_≤_, _<_};
@@ -10,20 +11,6 @@ ghost use Rattle.slicing.specs.Limits.{maxRange};
 ghost use Rattle.slicing_core.specs.Rows.{rows, deviceRows};
 ghost use Rattle.shares.specs.LargestRemainder.{Remainders};
 ghost use Rattle.shares.specs.LargestRemainder.{rank as rankOf};
-
-// The sum of the capacities. The contract alone reads the ids: it speaks of devices.
-fn sum(capacities: &[u64; MAX_DEVICES], ids: &[u64; MAX_DEVICES], n: usize) -> u64
-    requires { ⌜ (n ≤ 256) × Rising 0 (deviceRows (now ids) (now capacities) 0 n) ⌝ }
-    ensures { λ r. ⌜ r ≡ capacitiesOf (deviceRows (now (ids .entry)) (now (capacities .entry)) 0 n) ⌝ }
-{
-    let mut c = 0;
-    let mut i = 0;
-    while i < n {
-        c += capacities[i];
-        i += 1;
-    }
-    c
-}
 
 // What each device gets first, what its rounding leaves, and the points left over.
 struct Division {

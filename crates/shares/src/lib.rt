@@ -1,5 +1,6 @@
 // The share rule in code: what each device of a pool is to have. Internal: `opened` and `valid_pools` stand on it.
 // One module a rule, each promising its own rule; `shares` is the rule in force.
+pub mod capacities;
 mod largest_remainder;
 
 use slicing::MAX_DEVICES;

@@ -1,17 +1,19 @@
 -- The list of devices under add, remove and resize.
 --
--- Rising: rising-count, rising-distinct, rising-weaken, rising-capacities
+-- Rising: rising-count, rising-distinct, rising-weaken, rising-capacities; of a device of the list: rising-some (there is some capacity),
+--   rising-most (its own is within the limit)
 -- present: present-count
+-- capacityOf: capacityOf-member (a present id with its capacity is a device of the list)
 -- insert: insert-rising, insert-length; delete: delete-rising, delete-length; update: update-ids, update-length, update-rising
 use mathlib.Core.Path.{_≡_, refl, sym, ap, _∙_}
-use mathlib.Core.Bool.{Bool, true, false, cond, _||_}
-use mathlib.Core.List.{List, [], _∷_}
+use mathlib.Core.Bool.{Bool, true, false, cond, _||_, false≢true}
+use mathlib.Core.List.{List, [], _∷_, List·Memᴰ, List·Memᴰ·head, List·Memᴰ·tail}
 use Prim.Native.Nat.{ℕ, suc, _+_, _≤_, _<_}
 use native.Mathlib.Omega.{arith}
 use lib.Dec.{eqb, ltb}
 use lib.ListN.{length}
 use borrow.Author.Tests.{ltb-true, ltb-false, lt-ltb, eqb-true, eqb-false, ne-eqb}
-use Rattle.slicing.specs.Devices.{Device, device, ids, capacities, present, insert, delete, update, Within, Rising}
+use Rattle.slicing.specs.Devices.{Device, device, ids, capacities, present, capacityOf, insert, delete, update, Within, Rising}
 use Rattle.slicing.specs.Limits.{maxCapacity}
 use Rattle.slicing.specs.Runs.{one, count}
 use Rattle.slicing.proofs.Counting.{Distinct}
@@ -38,6 +40,13 @@ pub rising-capacities : (a : ℕ) (ds : List Device) → Rising a ds → length 
 rising-capacities a [] h = omega arith
 rising-capacities a (e ∷ ds) h = omega (arith, h .0 .some, rising-capacities (e .id) ds (h .1))
 
+pub rising-some : {e : Device} (a : ℕ) (ds : List Device) → Rising a ds → List·Memᴰ e ds → 1 ≤ capacities ds
+rising-some a (d ∷ ds) h m = omega (arith, h .0 .some)
+
+pub rising-most : {e : Device} (a : ℕ) (ds : List Device) → Rising a ds → List·Memᴰ e ds → e .capacity ≤ maxCapacity
+rising-most a (d ∷ ds) h (List·Memᴰ·head p) = rw p (h .0 .most)
+rising-most a (d ∷ ds) h (List·Memᴰ·tail m) = rising-most (d .id) ds (h .1) m
+
 pub present-count : (d : ℕ) (ds : List Device) → present d ds ≡ ltb 0 (count d (ids ds))
 present-count d [] = refl
 present-count d (e ∷ ds) = go (eqb d (e .id)) (present-count d ds)
@@ -45,6 +54,15 @@ present-count d (e ∷ ds) = go (eqb d (e .id)) (present-count d ds)
     go : (t : Bool) → present d ds ≡ ltb 0 (count d (ids ds)) → t || present d ds ≡ ltb 0 (one t + count d (ids ds))
     go true ih = sym (lt-ltb 0 (one true + count d (ids ds)) (omega arith))
     go false ih = let e : one false + count d (ids ds) ≡ count d (ids ds) = omega arith in ih ∙ ap (ltb 0) (sym e)
+
+pub capacityOf-member : (d : ℕ) (ds : List Device) → present d ds ≡ true → List·Memᴰ (device d (capacityOf ds d)) ds
+capacityOf-member d [] h = absurd (false≢true h)
+capacityOf-member d (e ∷ ds) h = go (eqb d (e .id)) refl h (capacityOf-member d ds)
+  where
+    go : (t : Bool) → eqb d (e .id) ≡ t → t || present d ds ≡ true → (present d ds ≡ true → List·Memᴰ (device d (capacityOf ds d)) ds)
+        → List·Memᴰ (device d (cond t (e .capacity) (capacityOf ds d))) (e ∷ ds)
+    go true x k ih = List·Memᴰ·head (ap (λ z. device z (e .capacity)) (eqb-true d (e .id) x))
+    go false x k ih = List·Memᴰ·tail (ih k)
 
 -- ---- insert
 

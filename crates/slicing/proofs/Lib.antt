@@ -6,6 +6,8 @@ pub mod Ranks
 pub mod LargestRemainder
 pub mod Devices
 pub mod ShareRule
+pub mod Differences
+pub mod Reports
 pub mod Walk
 pub mod Filling
 pub mod SixSteps

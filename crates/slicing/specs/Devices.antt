@@ -4,6 +4,7 @@
 --   ids ds             the ids, in order
 --   capacities ds      C, the sum of the capacities
 --   present d ds       whether a device has the id d
+--   capacityOf ds d    the capacity of the device d, 0 if it is absent
 --   insert d c ds      ds with a device more, at its place by rising id
 --   delete d ds        ds without the device d
 --   update d c ds      ds with another capacity of the device d
@@ -32,6 +33,10 @@ capacities (e ∷ ds) = e .capacity + capacities ds
 abbrev pub present : ℕ → List Device → Bool
 present d [] = false
 present d (e ∷ ds) = eqb d (e .id) || present d ds
+
+abbrev pub capacityOf : List Device → ℕ → ℕ
+capacityOf [] d = 0
+capacityOf (e ∷ ds) d = let r = capacityOf ds d in cond (eqb d (e .id)) (e .capacity) r
 
 abbrev pub insert : ℕ → ℕ → List Device → List Device
 insert d c [] = device d c ∷ []

@@ -2,8 +2,10 @@ pub mod Limits
 pub mod Replies
 pub mod Runs
 pub mod Devices
+pub mod Dues
 pub mod LargestRemainder
 pub mod ShareRule
+pub mod Reports
 pub mod SixSteps
 pub mod Changes
 pub mod Validity

@@ -1,7 +1,7 @@
 -- Laws of rows of devices: what a caller needs to go from arrays to the rules' list of devices.
 --
 -- Rising: rising-row, row-rising, none-rising (a loop over the rows); within-rising, ascending-rising, below-rising, capacities-rising
--- present: position-present, position-absent
+-- present: position-present, position-absent; capacityOf: capacityOf-row
 -- insert: insert-rows; delete: delete-rows; update: update-rows
 use mathlib.Core.Path.{_≡_, refl, sym, ap, _∙_}
 use mathlib.Core.Bool.{Bool, true, false, cond, _||_}
@@ -15,7 +15,7 @@ use lib.Dec.{eqb, ltb}
 use lib.ListN.{length, set}
 use lib.Seq.{getD-set-same, getD-set-other}
 use borrow.Author.Tests.{lt-ltb, le-ltb, eq-eqb, ne-eqb, eqb-true, eqb-false, ltb-true, ltb-false}
-use Rattle.slicing.specs.Devices.{device, present, insert, delete, update, Within, Rising}
+use Rattle.slicing.specs.Devices.{device, present, capacityOf, insert, delete, update, Within, Rising}
 use Rattle.slicing.proofs.Limits.{capacity-size}
 use Rattle.slicing_core.specs.Rows.{at, deviceRows}
 use Rattle.slicing_core.specs.Stages.{Below, Ascending, Position, Inserted, Deleted}
@@ -109,6 +109,19 @@ module _ {d : List ℕ} {n v p : ℕ} (q : Position d n v p) (a : Ascending d n)
 
   pub position-absent : (c : List ℕ) → (p < n → at d p ≡ v → ⊥) → present v (deviceRows d c 0 n) ≡ false
   position-absent c h = present-without d c v 0 n (position-without h)
+
+-- the capacity at a row whose id none before it has
+capacityOf-at : (d c : List ℕ) (i m p : ℕ) → i ≤ p → p < i + m → Without d (at d p) i (p - i) → capacityOf (deviceRows d c i m) (at d p) ≡ at c p
+capacityOf-at d c i zero p a b h = absurd (omega arith)
+capacityOf-at d c i (suc m) p a b h = go (eq-or-lt-of-le a) (λ s. capacityOf-at d c (suc i) m p s (omega arith) (λ k l z. h k (omega arith) (omega arith)))
+  where
+    go : (i ≡ p) ⊎ (i < p) → (suc i ≤ p → capacityOf (deviceRows d c (suc i) m) (at d p) ≡ at c p)
+        → cond (eqb (at d p) (at d i)) (at c i) (capacityOf (deviceRows d c (suc i) m) (at d p)) ≡ at c p
+    go (inl e) ih = rw (← e, eq-eqb (at d i) (at d i) refl)
+    go (inr s) ih = rw (ne-eqb (at d p) (at d i) (h i (omega arith) (omega arith))) (ih s)
+
+pub capacityOf-row : (d c : List ℕ) (n p : ℕ) → p < n → Ascending d n → capacityOf (deviceRows d c 0 n) (at d p) ≡ at c p
+capacityOf-row d c n p l a = capacityOf-at d c 0 n p (omega arith) (omega arith) (λ k b z e. omega (arith, a k p (omega arith) l))
 
 -- ---- rows that stand one place further on in other arrays
 

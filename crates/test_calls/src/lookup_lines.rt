@@ -1,4 +1,4 @@
-// Lines that look something up: points, owners, copies and shares.
+// Lines that look something up: points, owners, copies, shares and reports.
 use crate::printing;
 use crate::words::Parsed;
 use crate::words::number;
@@ -35,6 +35,14 @@ pub fn share(pool: Pool, line: &[u8]) -> bool {
         return false;
     };
     printing::share(valid_pools::share(pool, id));
+    true
+}
+
+pub fn report(pool: Pool, line: &[u8]) -> bool {
+    let Parsed::Number(id) = number(word(line, 2)) else {
+        return false;
+    };
+    printing::report(valid_pools::report(pool, id));
     true
 }
 

@@ -11,6 +11,7 @@
 //   owner POOL POINT                     refusal, owner
 //   copies POOL BLOCK K LOOKUPS TRIES    refusal, eight owners, tries, the two counters afterwards
 //   share POOL ID                        refusal, points
+//   report POOL ID                       refusal, whole number, remainder, difference with its sign
 //   add POOL ID CAPACITY PLACES          refusal, moved points, number of moves, the pool afterwards, then
 //   remove POOL ID PLACES                start, length, old and new owner of each move
 //   resize POOL ID CAPACITY PLACES
@@ -97,6 +98,9 @@ fn pool_line(pool: Pool, line: &[u8]) -> bool {
     }
     if is(line, b"share", 2) {
         return lookup_lines::share(pool, line);
+    }
+    if is(line, b"report", 2) {
+        return lookup_lines::report(pool, line);
     }
     if is(line, b"write", 2) {
         return image_lines::write(pool, line);

@@ -12,7 +12,9 @@ use test_text::first;
 use test_text::pair;
 use test_text::space;
 use test_text::spaced;
+use test_text::spaced_signed;
 use test_text::wide32;
+use valid_pools::ReportAnswer;
 use valid_pools::ShareAnswer;
 
 pub fn digest(answer: DigestAnswer) {
@@ -65,6 +67,14 @@ pub fn share(answer: ShareAnswer) {
             pair(wide32(refusal), 0);
         }
     }
+}
+
+pub fn report(answer: ReportAnswer) {
+    first(wide32(answer.refusal));
+    spaced(answer.whole);
+    spaced(answer.remainder);
+    spaced_signed(answer.difference);
+    end_line();
 }
 
 pub fn copies(answer: CopiesAnswer) {

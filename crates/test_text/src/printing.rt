@@ -1,4 +1,5 @@
 // Numbers printed on standard output.
+use crate::widths::magnitude;
 use crate::widths::wide16;
 use crate::widths::wide32;
 use libc::STDOUT_FILENO;
@@ -16,6 +17,15 @@ pub fn space() {
 pub fn spaced(n: u64) {
     space();
     first(n);
+}
+
+// The same with a sign where it is below 0.
+pub fn spaced_signed(x: i64) {
+    space();
+    if x < 0 {
+        io::write_all(STDOUT_FILENO, b"-");
+    }
+    first(magnitude(x));
 }
 
 // Ends a printed line.

@@ -1,5 +1,7 @@
 // Numbers of one width as another, and numbers that count places of a list.
+ghost use mathlib.Core.Path.{_≡_};
 ghost use Prim.Native.Nat.{_≤_};
+ghost use lib.IntN.{natAbs};
 ghost use Rattle.io.specs.Counts.{Counts};
 
 pub fn wide16(x: u16) -> u64 {
@@ -7,6 +9,16 @@ pub fn wide16(x: u16) -> u64 {
 }
 
 pub fn wide32(x: u32) -> u64 {
+    x as u64
+}
+
+// The number without its sign.
+pub fn magnitude(x: i64) -> u64
+    ensures { λ r. ⌜ r ≡ natAbs x ⌝ }
+{
+    if x < 0 {
+        return (-(x + 1)) as u64 + 1;
+    }
     x as u64
 }
 

@@ -1,4 +1,6 @@
 pub mod WidenedColumns
 pub mod HeldRows
-pub mod ShareAnswers
 pub mod CheckedPools
+pub mod FoundDevices
+pub mod ShareAnswers
+pub mod ReportAnswers

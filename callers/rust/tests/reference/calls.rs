@@ -6,7 +6,7 @@
 use super::history;
 use super::image;
 use super::lookup::{self, Copies, Tally};
-use super::pool::{shares, Changed, Pool};
+use super::pool::{shares, Changed, Pool, Report};
 
 pub const TRANSCRIPT_ROOM: usize = 3_145_728;
 
@@ -48,6 +48,19 @@ pub fn numbers(bytes: &[u8], answer: &mut [u64]) -> u32 {
 
 pub fn share(bytes: &[u8], id: u64, answer: &mut [u64]) -> u32 {
     answered(answer, || Ok([image::read(bytes)?.share(id)?]))
+}
+
+pub fn report(bytes: &[u8], id: u64, answer: &mut [u64], difference: &mut i64) -> u32 {
+    if answer.len() < 2 {
+        return 17;
+    }
+    let (number, report) = match image::read(bytes).and_then(|pool| pool.report(id)) {
+        Ok(report) => (0, report),
+        Err(number) => (number, Report { whole: 0, remainder: 0, difference: 0 }),
+    };
+    answer[..2].copy_from_slice(&[report.whole, report.remainder]);
+    *difference = report.difference;
+    number
 }
 
 pub fn devices(bytes: &[u8], rows: &mut [u64]) -> u32 {

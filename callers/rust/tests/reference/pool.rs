@@ -48,6 +48,14 @@ pub struct Changed {
     pub moved: u64,
 }
 
+/// What a device is exactly due, R × c / C, and how far its share lies from that.
+#[derive(Clone, Copy, Debug, PartialEq, Eq)]
+pub struct Report {
+    pub whole: u64,
+    pub remainder: u64,
+    pub difference: i64,
+}
+
 /// The share of each device, in the order of the devices.
 pub fn shares(range: u64, devices: &[Device]) -> Vec<u64> {
     let sum: u64 = devices.iter().map(|d| d.capacity).sum();
@@ -94,6 +102,19 @@ impl Pool {
             return Err(2);
         }
         self.share_of_id().get(&id).copied().ok_or(5)
+    }
+
+    /// The report on one device, or 2 or 5.
+    pub fn report(&self, id: u64) -> Result<Report, u32> {
+        let share = i128::from(self.share(id)?);
+        let sum: i128 = self.devices.iter().map(|d| i128::from(d.capacity)).sum();
+        let capacity = self.devices.iter().find(|d| d.id == id).ok_or(5u32)?.capacity;
+        let due = i128::from(self.range) * i128::from(capacity);
+        Ok(Report {
+            whole: u64::try_from(due / sum).unwrap(),
+            remainder: u64::try_from(due % sum).unwrap(),
+            difference: i64::try_from(share * sum - due).unwrap(),
+        })
     }
 
     pub fn add(&self, id: u64, capacity: u64, places: usize) -> Result<Changed, u32> {

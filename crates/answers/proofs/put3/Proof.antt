@@ -2,7 +2,7 @@
 use native.Mathlib.Omega.{arith}
 use lib.ListN.{length-set}
 use borrow.Author.Needs.{needs}
-use Rattle.answers.proofs.FirstPlaces.{put-firsts}
+use Rattle.answers.proofs.FirstPlaces.{put-three}
 use Rattle.answers.proofs.put3.Statement.{statement}
 use Rattle.answers.proofs.put3.Tie as tie
 
@@ -10,7 +10,7 @@ slice-write-answer-2 : tie.Need-slice-write-answer-2
 slice-write-answer-2 c = omega (arith, length-set (c .args .answer .now) 0 (c .args .x))
 
 returns : tie.Need-returns
-returns c = put-firsts (c .args .answer .now) (c .args .x) (c .args .y) (c .args .z) (c .pre)
+returns c = put-three (c .args .answer .now) (c .args .x) (c .args .y) (c .args .z) (c .pre)
 
 pub put3-spec : {M : Type 1} → statement M
 put3-spec =

@@ -10,7 +10,8 @@ use Rattle.slicing.proofs.Limits.{product-size}
 use Rattle.slicing_core.specs.Rows.{at, deviceRows}
 use Rattle.slicing_core.proofs.FilledArrays.{FilledTo, filledTo-none, filledTo-put}
 use Rattle.slicing_core.proofs.Rows.{deviceRows-step, deviceRows-end}
-use Rattle.shares.proofs.LargestRemainder.{capacity-most, floors-most, remainders-rows}
+use Rattle.shares.proofs.DeviceCapacities.{capacity-most}
+use Rattle.shares.proofs.LargestRemainder.{floors-most, remainders-rows}
 use Rattle.shares.proofs.largest_remainder.divided.Statement.{statement}
 use Rattle.shares.proofs.largest_remainder.divided.Tie as tie
 

@@ -7,7 +7,8 @@ use Rattle.slicing.specs.Devices.{device}
 use Rattle.slicing.specs.LargestRemainder.{share}
 use Rattle.slicing_core.specs.Rows.{at, deviceRows}
 use Rattle.slicing_core.proofs.FilledArrays.{FilledTo, filledTo-none, filledTo-put}
-use Rattle.shares.proofs.LargestRemainder.{capacity-most, some-capacities, floor-most, share-more, share-same, rows-shares}
+use Rattle.shares.proofs.DeviceCapacities.{capacity-most, some-capacities}
+use Rattle.shares.proofs.LargestRemainder.{floor-most, share-more, share-same, rows-shares}
 use Rattle.shares.proofs.largest_remainder.shares.Statement.{statement}
 use Rattle.shares.proofs.largest_remainder.shares.Tie as tie
 

@@ -1,4 +1,4 @@
--- `shares::largest_remainder::sum` meets its contract. The loop's invariant: the sum so far and the capacities of the rows left are all
+-- `shares::capacities::sum` meets its contract. The loop's invariant: the sum so far and the capacities of the rows left are all
 -- capacities.
 use mathlib.Core.Path.{_≡_, ap}
 use Prim.Native.Nat.{_+_, _-_, _≤_}
@@ -8,9 +8,9 @@ use borrow.Author.Needs.{needs}
 use Rattle.slicing.specs.Devices.{capacities as capacitiesOf}
 use Rattle.slicing_core.specs.Rows.{at, deviceRows}
 use Rattle.slicing_core.proofs.Rows.{deviceRows-step, deviceRows-end}
-use Rattle.shares.proofs.LargestRemainder.{sum-most}
-use Rattle.shares.proofs.largest_remainder.sum.Statement.{statement}
-use Rattle.shares.proofs.largest_remainder.sum.Tie as tie
+use Rattle.shares.proofs.DeviceCapacities.{sum-most}
+use Rattle.shares.proofs.capacities.sum.Statement.{statement}
+use Rattle.shares.proofs.capacities.sum.Tie as tie
 
 abbrev Inv-loop : tie.InvT-loop
 Inv-loop capacities ids n c₀ i₀ c i =
