@@ -8,6 +8,9 @@ use std::hint::black_box;
 use std::process::exit;
 use std::time::Instant;
 
+#[path = "../sha1/steps.rs"]
+mod steps;
+
 extern "C" {
     fn bench_lookups_run(
         starts: *const u32,
@@ -48,127 +51,7 @@ fn rust_run(t: &Table, count: u64) -> u64 {
 }
 
 mod rust {
-    // The first word of a digest.
-
-    const K0: u32 = 0x5a827999;
-    const K20: u32 = 0x6ed9eba1;
-    const K40: u32 = 0x8f1bbcdc;
-    const K60: u32 = 0xca62c1d6;
-
-    const INITIAL: [u32; 5] = [0x67452301, 0xefcdab89, 0x98badcfe, 0x10325476, 0xc3d2e1f0];
-
-    #[derive(Clone, Copy)]
-    struct Hash {
-        a: u32,
-        b: u32,
-        c: u32,
-        d: u32,
-        e: u32,
-    }
-
-    fn initial() -> Hash {
-        let h = INITIAL;
-        Hash { a: h[0], b: h[1], c: h[2], d: h[3], e: h[4] }
-    }
-
-    fn rotl(n: u32, x: u32) -> u32 {
-        (x << n) | (x >> (32 - n))
-    }
-
-    fn ch(x: u32, y: u32, z: u32) -> u32 {
-        (x & y) ^ (!x & z)
-    }
-
-    fn parity(x: u32, y: u32, z: u32) -> u32 {
-        x ^ y ^ z
-    }
-
-    fn maj(x: u32, y: u32, z: u32) -> u32 {
-        (x & y) ^ (x & z) ^ (y & z)
-    }
-
-    fn logical(t: usize, x: u32, y: u32, z: u32) -> u32 {
-        if t < 20 {
-            return ch(x, y, z);
-        }
-        if t < 40 {
-            return parity(x, y, z);
-        }
-        if t < 60 {
-            return maj(x, y, z);
-        }
-        parity(x, y, z)
-    }
-
-    fn constant(t: usize) -> u32 {
-        if t < 20 {
-            return K0;
-        }
-        if t < 40 {
-            return K20;
-        }
-        if t < 60 {
-            return K40;
-        }
-        K60
-    }
-
-    fn scheduled(w: &mut [u32; 16], t: usize) -> u32 {
-        let s = t % 16;
-        if t >= 16 {
-            w[s] = rotl(1, w[(t + 13) % 16] ^ w[(t + 8) % 16] ^ w[(t + 2) % 16] ^ w[s]);
-        }
-        w[s]
-    }
-
-    fn round(v: Hash, f: u32, k: u32, word: u32) -> Hash {
-        let kept = rotl(5, v.a).wrapping_add(f).wrapping_add(v.e);
-        Hash {
-            a: kept.wrapping_add(k).wrapping_add(word),
-            b: v.a,
-            c: rotl(30, v.b),
-            d: v.c,
-            e: v.d,
-        }
-    }
-
-    fn rounds(w: &mut [u32; 16], start: Hash, first: usize) -> Hash {
-        let k = constant(first);
-        let end = first + 20;
-        let mut v = start;
-        let mut t = first;
-        while t < end {
-            let word = scheduled(w, t);
-            v = round(v, logical(first, v.b, v.c, v.d), k, word);
-            t += 1;
-        }
-        v
-    }
-
-    fn compress(h: Hash, w: &mut [u32; 16]) -> Hash {
-        let v20 = rounds(w, h, 0);
-        let v40 = rounds(w, v20, 20);
-        let v60 = rounds(w, v40, 40);
-        let v = rounds(w, v60, 60);
-        Hash {
-            a: v.a.wrapping_add(h.a),
-            b: v.b.wrapping_add(h.b),
-            c: v.c.wrapping_add(h.c),
-            d: v.d.wrapping_add(h.d),
-            e: v.e.wrapping_add(h.e),
-        }
-    }
-
-    fn first_word(high: u64, low: u32) -> u32 {
-        let mut w = [0u32; 16];
-        w[0] = (high / 4294967296) as u32;
-        w[1] = (high % 4294967296) as u32;
-        w[2] = low;
-        w[3] = 0x80000000;
-        w[15] = 96;
-        let h = compress(initial(), &mut w);
-        h.a
-    }
+    use crate::steps::first_word;
 
     // The stages of a lookup.
 

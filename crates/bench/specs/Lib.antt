@@ -1,1 +1,1 @@
-pub mod Many
+pub mod Chain

@@ -3,6 +3,7 @@ pub mod ChangeRules
 pub mod CopyRules
 pub mod LineRules
 pub mod Digests
+pub mod PublishedDigests
 pub mod Pools
 pub mod Changes
 pub mod Lookups

@@ -1,6 +1,6 @@
 -- What a reader expects of the rules, each as a theorem that stands on the definitions alone.
 --
--- SHA-1: sixteen-words (the schedule of sixteen words gives what that of eighty does), whole-blocks
+-- SHA-1: schedule-eighty, schedule-block, schedule-word (each word of the message schedule is the standard's), whole-blocks
 -- shares: share-near (strictly within one of R × c / C)
 -- sizes at the limits: product-fits, sum-fits, capacity-fits, text-fits
 -- order of the checks: two-first, five-before-seven, four-before-six, eight-before-nine; largest-capacity
@@ -10,13 +10,12 @@
 -- accepted-alone, same-text, same-accepted
 use mathlib.Core.Path.{_≡_}
 use mathlib.Core.List.{List, [], _∷_, _++_, List·Memᴰ}
-use Prim.Native.Nat.{ℕ, suc, _+_, _*_, _^_, _≤_, _<_, min}
-use lib.ListN.{length, take, drop}
-use Rattle.sha1_blocks.specs.Fips180.{schedule, rounds, pad, N}
-use Rattle.sha1_blocks.specs.declared.Hash.{Hash}
-use Rattle.sha1_blocks.specs.Sixteen.{run}
-use Rattle.sha1_blocks.proofs.Agree as Sha1
+use Prim.Native.Nat.{ℕ, suc, _+_, _*_, _-_, _^_, _≤_, _<_, min}
+use lib.Bits.{bitXor}
+use lib.ListN.{length, getD, take, drop}
+use Rattle.sha1_blocks.specs.Fips180.{ROTL, schedule, pad, N}
 use Rattle.sha1_blocks.proofs.Padding as Padding
+use Rattle.sha1_blocks.proofs.Schedule as Schedule
 use Rattle.slicing.specs.Changes.{fresh, Change, add, remove, resize, change}
 use Rattle.slicing.specs.Devices.{Device, capacities, Rising}
 use Rattle.slicing.specs.Runs.{count, intervals}
@@ -53,9 +52,21 @@ use Rattle.history.proofs.TextLines as TextLines
 
 -- ---- SHA-1
 
--- 'The schedule is the sixteen-word one of section 6.1.3': eighty rounds over sixteen words end as over the eighty words of 6.1.2
-pub sixteen-words : (M : List ℕ) (v : Hash) → length M ≡ 16 → run M v 0 80 ≡ rounds (schedule M 64) v 80
-sixteen-words = Sha1.agree
+-- Wish 3: 'all eighty schedule words .. each proved to be the standard's', section 6.1.2, step 1
+module _ (M : List ℕ) (sixteen : length M ≡ 16) where
+  abbrev W : ℕ → ℕ
+  W t = getD (schedule M 64) t 0
+
+  pub schedule-eighty : length (schedule M 64) ≡ 80
+  schedule-eighty = Schedule.length-schedule M sixteen 64
+
+  -- W_t = M_t, 0 ≤ t ≤ 15
+  pub schedule-block : (t : ℕ) → t < 16 → W t ≡ getD M t 0
+  schedule-block = Schedule.schedule-block M sixteen 64
+
+  -- W_t = ROTL^1(W_(t-3) ⊕ W_(t-8) ⊕ W_(t-14) ⊕ W_(t-16)), 16 ≤ t ≤ 79
+  pub schedule-word : (t : ℕ) → 16 ≤ t → t < 80 → W t ≡ ROTL 1 (bitXor (bitXor (bitXor (W (t - 3)) (W (t - 8))) (W (t - 14))) (W (t - 16)))
+  schedule-word = Schedule.schedule-next M sixteen 64
 
 -- a padded message is a whole number of blocks of 64 bytes
 pub whole-blocks : (m : List ℕ) → 64 * N m ≡ length (pad m)

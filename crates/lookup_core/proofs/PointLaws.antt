@@ -10,7 +10,7 @@ use Rattle.sha1_blocks.specs.Fips180.{bytes, compress, digest, pad, N}
 use Rattle.sha1_blocks.specs.Fips180 as Fips
 use Rattle.lookup_core.specs.Probes.{scaled, pointOf}
 
-H-word : (p : List ℕ) (i : ℕ) → Fips.H p i .a < 4294967296
+H-word : (p : List ℕ) (i : ℕ) → Fips.H p i .h0 < 4294967296
 unfolding Fips.H compress
 H-word p zero = omega arith
 H-word p (suc i) = omega arith

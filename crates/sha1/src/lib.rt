@@ -32,7 +32,7 @@ pub fn digest(message: &[u8]) -> DigestAnswer
     let h = message::hash(message);
     DigestAnswer {
         refusal: 0,
-        words: [h.a, h.b, h.c, h.d, h.e],
+        words: [h.h0, h.h1, h.h2, h.h3, h.h4],
     }
 }
 
@@ -40,12 +40,12 @@ pub fn digest(message: &[u8]) -> DigestAnswer
 pub fn first_word(high: u64, low: u32) -> u32
     ensures { λ r. ⌜ r ≡ getD (Fips.digest (bytes 8 high ++ bytes 4 low)) 0 0 ⌝ }
 {
-    let mut w = [0u32; 16];
-    w[0] = (high / 4294967296) as u32;
-    w[1] = (high % 4294967296) as u32;
-    w[2] = low;
-    w[3] = 0x80000000;
-    w[15] = 96;
-    let h = compress(Hash::new(), &mut w);
-    h.a
+    let mut m = [0u32; 16];
+    m[0] = (high / 4294967296) as u32;
+    m[1] = (high % 4294967296) as u32;
+    m[2] = low;
+    m[3] = 0x80000000;
+    m[15] = 96;
+    let h = compress(Hash::new(), &m);
+    h.h0
 }

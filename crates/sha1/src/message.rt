@@ -77,13 +77,13 @@ fn load(message: &[u8], i: usize) -> [u32; 16]
     requires { ⌜ (length (now message) ≤ limit) × (64 * i + 64 ≤ length (pad (now message))) ⌝ }
     ensures { λ r. ⌜ r ≡ block (pad (now (message .entry))) i ⌝ }
 {
-    let mut w = [0u32; 16];
+    let mut m = [0u32; 16];
     let mut t = 0;
     while t < 16 {
-        w[t] = padded_word(message, 64 * i + 4 * t);
+        m[t] = padded_word(message, 64 * i + 4 * t);
         t += 1;
     }
-    w
+    m
 }
 
 // The hash value after the last block.
@@ -95,8 +95,8 @@ pub fn hash(message: &[u8]) -> Hash
     let mut h = Hash::new();
     let mut i = 0;
     while i < n {
-        let mut w = load(message, i);
-        h = compress(h, &mut w);
+        let m = load(message, i);
+        h = compress(h, &m);
         i += 1;
     }
     h

@@ -1,3 +1,3 @@
-pub mod Windows
-pub mod Agree
 pub mod Padding
+pub mod Schedule
+pub mod Rounds

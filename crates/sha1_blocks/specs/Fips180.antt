@@ -12,8 +12,13 @@
 --   word p i           5.2.1        the word of p whose first byte is byte i
 --   block p i          5.2.1        the sixteen words of block i, from 0
 --   initial            5.3.1        H(0)
+--   next W t           6.1.2, 1     W_t, from the words of W before it
 --   schedule M n       6.1.2, 1     W_0 to W_(15 + n) of the block M
---   rounds W v t       6.1.2, 2-3   the working variables after rounds 0 to t - 1
+--   working h          6.1.2, 2     the working variables, begun with the hash value h
+--   round t w v        6.1.2, 3     round t with the word w
+--   rounds W v t n     6.1.2, 3     n rounds, the first of them round t
+--   intermediate v h   6.1.2, 4     the hash value after the block
+--   compress h M       6.1.2        the hash value after the block M, h being the one before
 --   H p i              6.1.2        H(i), the hash value after i blocks of p
 --   digest m           6.1.2        the message digest, five words
 use mathlib.Core.Bool.{cond}
@@ -23,6 +28,7 @@ use lib.Bits.{bitAnd, bitOr, bitXor}
 use lib.Dec.{ltb}
 use lib.ListN.{length, getD, replicate}
 use Rattle.sha1_blocks.specs.declared.Hash.{Hash}
+use Rattle.sha1_blocks.specs.declared.Variables.{Variables}
 
 infixl 60 _⊞_
 -- 3.1: a word or a double word as bytes, the highest first
@@ -88,7 +94,7 @@ block p i = wordsFrom p (64 * i) 16
 
 -- 5.3.1: H(0)
 abbrev pub initial : Hash
-initial = record { a = 0x67452301; b = 0xefcdab89; c = 0x98badcfe; d = 0x10325476; e = 0xc3d2e1f0 }
+initial = record { h0 = 0x67452301; h1 = 0xefcdab89; h2 = 0x98badcfe; h3 = 0x10325476; h4 = 0xc3d2e1f0 }
 
 -- 6.1.2, step 1: W_t of t = 16 and above, from the words before it
 abbrev pub next : List ℕ → ℕ → ℕ
@@ -99,8 +105,12 @@ unfoldable pub schedule : List ℕ → ℕ → List ℕ
 schedule M zero = M
 schedule M (suc n) = schedule M n ++ next (schedule M n) (16 + n) ∷ []
 
+-- 6.1.2, step 2: the five working variables, initialised with the hash value before
+abbrev pub working : Hash → Variables
+working h = record { a = h .h0; b = h .h1; c = h .h2; d = h .h3; e = h .h4 }
+
 -- 6.1.2, step 3: round t with the word w
-unfoldable pub round : ℕ → ℕ → Hash → Hash
+unfoldable pub round : ℕ → ℕ → Variables → Variables
 round t w v = record {
   a = ROTL 5 (v .a) ⊞ f t (v .b) (v .c) (v .d) ⊞ v .e ⊞ K t ⊞ w;
   b = v .a;
@@ -109,18 +119,18 @@ round t w v = record {
   e = v .d;
 }
 
--- 6.1.2, steps 2 and 3: the working variables after the rounds 0 to t - 1, begun with v
-unfoldable pub rounds : List ℕ → Hash → ℕ → Hash
-rounds W v zero = v
-rounds W v (suc t) = round t (getD W t 0) (rounds W v t)
+-- 6.1.2, step 3: n rounds, the first of them round t
+unfoldable pub rounds : List ℕ → Variables → ℕ → ℕ → Variables
+rounds W v t zero = v
+rounds W v t (suc n) = round (t + n) (getD W (t + n) 0) (rounds W v t n)
 
 -- 6.1.2, step 4: the intermediate hash value
-abbrev pub sum : Hash → Hash → Hash
-sum v h = record { a = v .a ⊞ h .a; b = v .b ⊞ h .b; c = v .c ⊞ h .c; d = v .d ⊞ h .d; e = v .e ⊞ h .e }
+abbrev pub intermediate : Variables → Hash → Hash
+intermediate v h = record { h0 = v .a ⊞ h .h0; h1 = v .b ⊞ h .h1; h2 = v .c ⊞ h .h2; h3 = v .d ⊞ h .h3; h4 = v .e ⊞ h .h4 }
 
 -- 6.1.2, steps 1 to 4: H(i) from H(i - 1) and the block M
 unfoldable pub compress : Hash → List ℕ → Hash
-compress h M = sum (rounds (schedule M 64) h 80) h
+compress h M = intermediate (rounds (schedule M 64) (working h) 0 80) h
 
 -- 6.1.2: H(i)
 unfoldable pub H : List ℕ → ℕ → Hash
@@ -129,7 +139,7 @@ H p (suc i) = compress (H p i) (block p i)
 
 -- 6.1.2: the message digest, H_0 to H_4 of H(N)
 abbrev pub wordsOf : Hash → List ℕ
-wordsOf h = h .a ∷ h .b ∷ h .c ∷ h .d ∷ h .e ∷ []
+wordsOf h = h .h0 ∷ h .h1 ∷ h .h2 ∷ h .h3 ∷ h .h4 ∷ []
 
 unfoldable pub digest : List ℕ → List ℕ
 digest m = wordsOf (H (pad m) (N m))

@@ -1,2 +1,2 @@
 pub mod Fips180
-pub mod Sixteen
+pub mod InPlace

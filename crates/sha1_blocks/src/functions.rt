@@ -29,8 +29,8 @@ pub fn maj(x: u32, y: u32, z: u32) -> u32
     (x & y) ^ (x & z) ^ (y & z)
 }
 
-// The function of round t.
-pub fn logical(t: usize, x: u32, y: u32, z: u32) -> u32
+// f_t.
+pub fn f(t: usize, x: u32, y: u32, z: u32) -> u32
     ensures { λ r. ⌜ r ≡ f t x y z ⌝ }
 {
     if t < 20 {

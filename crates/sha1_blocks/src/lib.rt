@@ -2,18 +2,19 @@
 ghost use mathlib.Core.Path.{_≡_};
 ghost use Rattle.sha1_blocks.specs.Fips180 as Fips;
 
+mod constants;
 mod functions;
-mod rounds;
+mod steps;
 
-pub use rounds::compress;
+pub use steps::compress;
 
-// The five words of a hash value, and the working variables a to e of a block's rounds.
+// A hash value: the words H_0 to H_4.
 pub struct Hash {
-    pub a: u32,
-    pub b: u32,
-    pub c: u32,
-    pub d: u32,
-    pub e: u32,
+    pub h0: u32,
+    pub h1: u32,
+    pub h2: u32,
+    pub h3: u32,
+    pub h4: u32,
 }
 
 impl Hash {
@@ -26,11 +27,20 @@ impl Hash {
     {
         let h = Self::INITIAL;
         Self {
-            a: h[0],
-            b: h[1],
-            c: h[2],
-            d: h[3],
-            e: h[4],
+            h0: h[0],
+            h1: h[1],
+            h2: h[2],
+            h3: h[3],
+            h4: h[4],
         }
     }
+}
+
+// The working variables of a block's rounds.
+struct Variables {
+    a: u32,
+    b: u32,
+    c: u32,
+    d: u32,
+    e: u32,
 }

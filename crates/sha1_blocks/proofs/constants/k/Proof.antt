@@ -1,8 +1,8 @@
--- `sha1_blocks::rounds::constant` meets its contract: its tests are those of the definition.
+-- `sha1_blocks::constants::k` meets its contract: its tests are those of the definition.
 use borrow.Author.Tests.{lt-ltb, le-ltb}
 use Rattle.sha1_blocks.specs.Fips180.{K}
-use Rattle.sha1_blocks.proofs.rounds.constant.Statement.{statement}
-use Rattle.sha1_blocks.proofs.rounds.constant.Tie as tie
+use Rattle.sha1_blocks.proofs.constants.k.Statement.{statement}
+use Rattle.sha1_blocks.proofs.constants.k.Tie as tie
 
 returns : tie.Need-returns
 unfolding K
@@ -20,5 +20,5 @@ returns-4 : tie.Need-returns-4
 unfolding K
 returns-4 c = rw (le-ltb _ 20 (c .before .before .if1 .left), le-ltb _ 40 (c .before .if2 .left), le-ltb _ 60 (c .if3 .left))
 
-pub constant-spec : {M : Type 1} → statement M
-constant-spec = tie.close (tie.spec returns returns-2 returns-3 returns-4)
+pub k-spec : {M : Type 1} → statement M
+k-spec = tie.close (tie.spec returns returns-2 returns-3 returns-4)

@@ -1,9 +1,9 @@
--- `sha1_blocks::functions::logical` meets its contract: its tests are those of the definition.
+-- `sha1_blocks::functions::f` meets its contract: its tests are those of the definition.
 use borrow.Author.Needs.{needs}
 use borrow.Author.Tests.{lt-ltb, le-ltb}
 use Rattle.sha1_blocks.specs.Fips180.{f}
-use Rattle.sha1_blocks.proofs.functions.logical.Statement.{statement}
-use Rattle.sha1_blocks.proofs.functions.logical.Tie as tie
+use Rattle.sha1_blocks.proofs.functions.f.Statement.{statement}
+use Rattle.sha1_blocks.proofs.functions.f.Tie as tie
 
 returns : tie.Need-returns
 unfolding f
@@ -23,8 +23,8 @@ unfolding f
 returns-4 c =
     rw (le-ltb _ 20 (c .before .before .before .if1 .left), le-ltb _ 40 (c .before .before .if2 .left), le-ltb _ 60 (c .before .if3 .left)) (c .parity2 .ensures)
 
-pub logical-spec : {M : Type 1} → statement M
-logical-spec =
+pub f-spec : {M : Type 1} → statement M
+f-spec =
     tie.close
     (tie.spec
     (λ c κs. search needs)
