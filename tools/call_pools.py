@@ -7,6 +7,9 @@ A case is a line given, with the line printed.
 # the largest capacity, in thousandths of a TB
 CAPACITY_MOST = 16_000_000
 
+# the version of an image
+VERSION = 2
+
 
 class Pool:
     """The numbers of a pool: n devices and q intervals, and the first places of both."""
@@ -32,8 +35,8 @@ class Pool:
     def show(self):
         return line("show"), line(*self.words())
 
-    def image(self):
-        head = b"RSL" + (1).to_bytes(2, "big") + self.size.to_bytes(8, "big")
+    def image(self, version=VERSION):
+        head = b"RSL" + version.to_bytes(2, "big") + self.size.to_bytes(8, "big")
         head += b"".join(x.to_bytes(2, "big") for x in (self.limit, self.n, self.q))
         return head + self.device_bytes() + self.row_bytes()
 
@@ -69,6 +72,18 @@ SMALLEST = Pool(1, 1, [], [])
 # two devices of equal capacity share ten points
 DEVICES = [(1, 1000), (2, 1000)]
 ROWS = [(0, 1), (5, 2)]
+
+# pools whose shares Wish 4 changed, each with the table that it had before: K11's, and one whose largest disk has all points
+CHANGED_SHARES = [
+    (
+        Pool(10, 16, [(1, 143), (2, 857), (3, 30)], [(0, 1), (1, 2)]),
+        Pool(10, 16, [(1, 143), (2, 857), (3, 30)], [(0, 1), (2, 2)]),
+    ),
+    (
+        Pool(4, 16, [(1, 5000), *((d, 1000) for d in range(2, 7))], [(0, 1)]),
+        Pool(4, 16, [(1, 5000), *((d, 1000) for d in range(2, 7))], [(0, 1), (2, 2), (3, 3)]),
+    ),
+]
 
 INVALID = [
     # range and limit
@@ -127,4 +142,6 @@ INVALID = [
     Pool(10, 8, [], [(0, 1)]),
     Pool(10, 8, [(1, 1000)], [(0, 2)]),
     Pool(2**32, 8, [(1, 1000)], [(2**32 - 1, 1)]),
+    # the shares of before Wish 4
+    *(before for _, before in CHANGED_SHARES),
 ]

@@ -3,27 +3,34 @@
 The head of crates/test_calls/src/main.rt describes the lines. The cases:
 
 - each image of the vectors with a byte more, a byte less, and cut to 18 and 19 bytes
+- images of other versions, and images with the shares of before Wish 4
 - pools at the limits, one of 256 devices and 4,096 intervals, and pools that are not valid, written and read back
 - every change of a single byte of several images
 
-The reference follows document 01, 'Image', 'Pool and range', 'Shares' and 'Where a call stops'. It is held to each read and write line
-of calls.in.
+The reference follows document 01, 'Image', 'Pool and range' and 'Where a call stops', and document 02, Wish 4. It is held to each read
+and write line of calls.in.
 """
 from hashlib import sha1
 
-from call_pools import CAPACITY_MOST, INVALID, SMALLEST, Pool, line, number, pool_of, spelled
+from call_pools import CAPACITY_MOST, CHANGED_SHARES, INVALID, SMALLEST, VERSION, Pool, line, number, pool_of, spelled
 
 SIZE = 32768
 EMPTY = SMALLEST.image()
 
 
-def rounded(size, devices):
-    """The shares by largest remainder."""
+def shares_of(size, devices):
+    """The shares of devices by rising id: how many of a device's quotients c / 1, c / 2, c / 3 .. are among the first `size`.
+
+    Those that are C / size or more are all among them. Of the others the largest next one is taken, of equal ones that of the lower id.
+    """
     total = sum(c for _, c in devices)
     due = {d: size * c // total for d, c in devices}
-    order = sorted(devices, key=lambda e: (-(size * e[1] % total), e[0]))
-    for d, _ in order[: size - sum(due.values())]:
-        due[d] += 1
+    for _ in range(size - sum(due.values())):
+        best, most = devices[0]
+        for d, c in devices[1:]:
+            if c * (due[best] + 1) > most * (due[d] + 1):
+                best, most = d, c
+        due[best] += 1
     return due
 
 
@@ -46,7 +53,7 @@ def sound(b):
         return False
     if any(a == b for a, b in zip(owners, owners[1:])) or not set(owners) <= set(ids):
         return False
-    due = rounded(pool.size, pool.devices)
+    due = shares_of(pool.size, pool.devices)
     return all(pool.share(d) == due[d] for d in ids)
 
 
@@ -54,7 +61,7 @@ def read(b):
     """The refusal number, and the image of the pool made."""
     if len(b) < 19 or b[:3] != b"RSL":
         return 14, EMPTY
-    if number(b[3:5]) != 1:
+    if number(b[3:5]) != VERSION:
         return 15, EMPTY
     return (0, b) if sound(b) else (16, EMPTY)
 
@@ -110,6 +117,26 @@ def other_lengths(vectors):
                 yield read_case(other)
 
 
+def write_case(pool):
+    """An image written to a buffer of its length."""
+    b = pool.image()
+    return line("write", b.hex(), len(b)), line(0, len(b), b.hex())
+
+
+def versions():
+    """An image is read and written back; with another version it gets 15, with the shares of before Wish 4 16."""
+    for pool, before in CHANGED_SHARES:
+        assert read(pool.image()) == (0, pool.image())
+        assert read(before.image()) == (16, EMPTY)
+        yield read_case(pool.image())
+        yield write_case(pool)
+        yield read_case(before.image())
+        for version in (0, 1, 3, 256, 513):
+            for other in (pool.image(version), before.image(version)):
+                assert read(other) == (15, EMPTY)
+                yield read_case(other)
+
+
 def largest():
     """256 devices of equal capacity, and 4,096 intervals of 16 points each."""
     devices = [(256 * i + 255, CAPACITY_MOST) for i in range(256)]
@@ -123,6 +150,8 @@ def pools():
             yield from pool_case(Pool(size, limit, [], []))
             yield from pool_case(Pool(size, limit, [(65535, 1)], [(0, 65535)]))
     yield from pool_case(largest())
+    for pool, _ in CHANGED_SHARES:
+        yield from pool_case(pool)
     for pool in INVALID:
         yield from pool_case(pool, False)
 
@@ -140,4 +169,4 @@ def damaged(vectors):
 def cases(vectors):
     """The lines given, with what is printed of each."""
     hold(vectors)
-    return [*other_lengths(vectors), *pools(), *damaged(vectors)]
+    return [*other_lengths(vectors), *versions(), *pools(), *damaged(vectors)]

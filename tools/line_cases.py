@@ -5,12 +5,13 @@ The head of crates/test_calls/src/main.rt describes the lines. The kept pool is 
 """
 from hashlib import sha1
 
-from call_pools import DEVICES, ROWS, Pool, line
+from call_pools import DEVICES, ROWS, SMALLEST, Pool, line
 
 LARGEST = 2**64 - 1
 LONGEST = 65536
 POOL = Pool(10, 8, DEVICES, ROWS)
 IMAGE = POOL.image().hex()
+OLD_IMAGE = POOL.image(version=1).hex()
 ROW = "000103e80000"
 
 BAD = [
@@ -106,13 +107,15 @@ def images():
     """A share, a report and what is written of a pool given as its image, and of what a refused image gives."""
     yield line("share", IMAGE, 1), line(0, 5)
     yield line("share", IMAGE, 3), line(5, 0)
-    yield line("share", "-", 1), line(5, 0)
     yield line("report", IMAGE, 1), line(0, 5, 0, 0)
     yield line("report", IMAGE, 3), line(5, 0, 0, 0)
-    yield line("report", "-", 1), line(5, 0, 0, 0)
-    for given, made in ((IMAGE, POOL.image()), ("-", Pool(1, 1, [], []).image())):
-        buffer = made + bytes([170] * (32768 - len(made)))
-        yield line("reread", given), line(0, len(made), sha1(buffer).hexdigest(), 0, sha1(made).hexdigest())
+    for refused in ("-", OLD_IMAGE):
+        yield line("share", refused, 1), line(5, 0)
+        yield line("report", refused, 1), line(5, 0, 0, 0)
+    for given, made in ((IMAGE, POOL), ("-", SMALLEST), (OLD_IMAGE, SMALLEST)):
+        b = made.image()
+        buffer = b + bytes([170] * (32768 - len(b)))
+        yield line("reread", given), line(0, len(b), sha1(buffer).hexdigest(), 0, sha1(b).hexdigest())
     yield line("single", "-"), line(0, 0, 0, 0, 0)
 
 

@@ -15,7 +15,7 @@ copies line of the vectors.
 from hashlib import sha1
 
 from call_pools import CAPACITY_MOST, INVALID, Pool, line, pool_of
-from image_cases import rounded
+from image_cases import shares_of
 
 LARGEST = 2**64 - 1
 MOST = 2**32 - 1
@@ -167,7 +167,7 @@ def limits(vectors):
 def last_probe():
     """Device 2 has few points, at the point of the last probe, beside it on either side, and around it."""
     size, devices = 2**32, [(1, CAPACITY_MOST), (2, 1)]
-    few = rounded(size, devices)[2]
+    few = shares_of(size, devices)[2]
     for block in BLOCKS:
         last = point(block, 255, size)[1]
         for start in (last, last + 1, last - few + 1, last - few, last - few // 2):

@@ -6,11 +6,12 @@ The head of crates/test_calls/src/main.rt describes the lines. The cases, all of
 - the same of pools at the limits, of pools whose differences lie as far from 0 as they can, and of pools without devices
 - reports of pools that are not valid, each refused with 2
 
-The reference follows document 02, Wish 2, and counts a share in the table. It is held to each report line of the vectors, and the
-differences of each pool must add up to 0.
+The reference follows document 02, Wishes 2 and 4, and counts a share in the table. It is held to each report line of the vectors. The
+differences of each pool must add up to 0, each must lie strictly between −C and n × C for n devices, and one of 0 must have the
+remainder 0.
 """
 from call_pools import CAPACITY_MOST, INVALID, Pool, line, pool_of
-from image_cases import rounded
+from image_cases import shares_of
 
 LARGEST = 2**64 - 1
 MOST = 2**32
@@ -37,7 +38,7 @@ def hold(vectors):
 def laid_out(size, devices):
     """A pool whose devices have their shares one after the other."""
     rows, start = [], 0
-    for d, share in rounded(size, devices).items():
+    for d, share in shares_of(size, devices).items():
         if share:
             rows.append((start, d))
         start += share
@@ -56,6 +57,11 @@ AT_LIMITS = [
     laid_out(2, equal(3, 1)),
     laid_out(1, equal(256, 1)),
     laid_out(255, equal(256, 1)),
+    # device 1 has a remainder of 0, and a difference of 2 × C
+    laid_out(4, [(1, 5000), *((d, 1000) for d in range(2, 7))]),
+    # device 1 has all points, and nearly 1 × C and 255 × C above what it is due
+    laid_out(CAPACITY_MOST, [(1, CAPACITY_MOST), (2, 1)]),
+    laid_out(CAPACITY_MOST, [(1, CAPACITY_MOST), *((d, 1) for d in range(2, 257))]),
     # the largest range, the largest capacities
     laid_out(MOST, equal(1, CAPACITY_MOST)),
     laid_out(MOST, equal(256, CAPACITY_MOST)),
@@ -72,6 +78,10 @@ AT_LIMITS = [
 def of_pool(pool):
     present = [d for d, _ in pool.devices]
     absent = next(d for d in range(1, 65536) if d not in present)
+    total = sum(c for _, c in pool.devices)
+    for d in present:
+        _, _, remainder, difference = report(pool, d)
+        assert -total < difference < pool.n * total and (difference != 0 or remainder == 0)
     assert sum(report(pool, d)[3] for d in present) == 0
     yield pool.keep()
     for d in [*present, absent, 0, 65536, 65536 + absent, LARGEST]:

@@ -3,12 +3,13 @@
 
 usage: tools/vectors_to_antt.py VECTORS > crates/slicing/proofs/Vectors.antt
 
-Each add, remove and resize becomes a case with its whole answer, and so does each report; each history of at most 60 lines becomes a
+Each add, remove and resize becomes a case with its whole answer, and so does each report; beside them stand the shares of a largest pool; each history of at most 60 lines becomes a
 list of its changes with the three numbers printed for each and the table at the end. Lines that are refused for their text (1 and 3)
 are left out.
 """
 import re
 import sys
+from fractions import Fraction
 
 sys.dont_write_bytecode = True
 from vectors import Vectors  # noqa: E402
@@ -70,7 +71,7 @@ def reports(vectors):
     for place, (words, answer) in enumerate(vectors.calls("report"), 1):
         size, _, devices, _ = pool(words[1])
         ds = listed([f"device {d} {c}" for d, c in devices])
-        yield f"-- {place}", f"report {size} ({ds}) {words[2]}", f"told {' '.join(answer[:3])} {signed(answer[3])}"
+        yield f"-- {place}", f"about {size} ({ds}) {words[2]}", f"told {' '.join(answer[:3])} {signed(answer[3])}"
 
 
 def thousandths(text):
@@ -95,39 +96,68 @@ def history(path):
     return size, changes, answers, [(n, d) for _, n, d in table]
 
 
-HEAD = """-- The definitions against the outside: changes made by a reference program that was written from document 01 alone, computed
+HEAD = """-- The definitions against the outside: changes made by a reference program that was written from the documents alone, computed
 -- here and compared. Written by tools/vectors_to_antt.py.
 --
 --   direct-calls    the adds, removes and resizes of calls.in and own.in, with the whole answer
 --   direct-reports  their reports, with the whole answer
 --   history-NAME    the changes of the history NAME.in, with what is printed of each and the table at the end
-use mathlib.Core.Path.{_≡_, refl}
+--   largest-shares  the shares of 256 devices and the largest range
+-- All are of the rule in force, `shares`, and computed with its executable form (proofs/Computing.antt).
+use mathlib.Core.Path.{_≡_, refl, ap}
 use mathlib.Core.List.{List, [], _∷_}
 use Prim.Native.Nat.{ℕ}
 use lib.IntN.{ℤ, pos, negsuc}
 use lib.ListN.{replicate}
-use Rattle.slicing.specs.Changes.{State, fresh, Change, add, remove, resize, Outcome, change}
+use Rattle.slicing.specs.Changes.{State, fresh, Change, add, remove, resize, Outcome, changeBy}
 use Rattle.slicing.specs.Claims.{written}
-use Rattle.slicing.specs.Devices.{device}
-use Rattle.slicing.specs.LargestRemainder.{largestRemainder}
-use Rattle.slicing.specs.Reports.{Report, report}
+use Rattle.slicing.specs.Devices.{Device, device}
+use Rattle.slicing.specs.Reports.{Report, reportBy}
 use Rattle.slicing.specs.Runs.{Run, _of_}
-use Rattle.slicing.specs.ShareRule.{shares}
+use Rattle.slicing.specs.ShareRule.{Rule, shares}
 use Rattle.slicing.specs.SixSteps.{turns, Move, move}
+use Rattle.slicing.proofs.Computing.{computed, shares-computed}
 
 -- the refusal number, the moved points, the number of moves, the moves, the pool afterwards
 data Answer : Type 0 where
   seen : ℕ → ℕ → ℕ → List Move → State → Answer
 
+seenOf : Outcome → Answer
+seenOf o = seen (o .number) (o .moved) (o .count) (written o) (o .state)
+
 -- a list of n places
 abbrev places : ℕ → List Move
 places n = replicate n (move 0 0 0 0)
 
-seenOf : Outcome → Answer
-seenOf o = seen (o .number) (o .moved) (o .count) (written o) (o .state)
+-- a change of a pool with a list of so many places
+data Call : Type 0 where
+  called : State → Change → ℕ → Call
 
-called : State → Change → ℕ → Answer
-called s k n = seenOf (change s (places n) k)
+abbrev answersBy : Rule → List Call → List Answer
+answersBy rule [] = []
+answersBy rule (called s k n ∷ cs) = seenOf (changeBy rule s (places n) k) ∷ answersBy rule cs
+
+answers : List Call → List Answer
+answers cs = answersBy shares cs
+
+answers-computed : (cs : List Call) → answers cs ≡ answersBy computed cs
+unfolding answers
+answers-computed cs = ap (λ rule. answersBy rule cs) shares-computed
+
+-- the report of an id in a pool of such a range and such devices
+data Question : Type 0 where
+  about : ℕ → List Device → ℕ → Question
+
+abbrev reportsBy : Rule → List Question → List Report
+reportsBy rule [] = []
+reportsBy rule (about R ds d ∷ qs) = reportBy rule R ds d ∷ reportsBy rule qs
+
+reports : List Question → List Report
+reports qs = reportsBy shares qs
+
+reports-computed : (qs : List Question) → reports qs ≡ reportsBy computed qs
+unfolding reports
+reports-computed qs = ap (λ rule. reportsBy rule qs) shares-computed
 
 -- the refusal number, the whole number, the remainder, the difference
 told : ℕ → ℕ → ℕ → ℤ → Report
@@ -143,32 +173,54 @@ data Replayed : Type 0 where
   prints : Printed → Replayed → Replayed
 
 -- the list of `slices` has 4,096 places; no history here fills 64
+abbrev replayBy : Rule → State → List Change → Replayed
+replayBy rule s [] = ends (s .table)
+replayBy rule s (k ∷ ks) =
+    let o = changeBy rule s (places 64) k in
+    prints (answered (o .number) (o .moved) (o .count)) (replayBy rule (o .state) ks)
+
 replay : State → List Change → Replayed
-replay s [] = ends (s .table)
-replay s (k ∷ ks) =
-    let o = change s (places 64) k in
-    prints (answered (o .number) (o .moved) (o .count)) (replay (o .state) ks)
+replay s ks = replayBy shares s ks
+
+replay-computed : (s : State) (ks : List Change) → replay s ks ≡ replayBy computed s ks
+unfolding replay
+replay-computed s ks = ap (λ rule. replayBy rule s ks) shares-computed
 """
 
 
-def listing(name, kind, cases, opened):
-    """The calls of the cases as one list, equal to that of their answers."""
+def listing(name, function, cases, opened):
+    """The calls of the cases as one list, whose answers are the list of theirs."""
     found = list(cases)
-    yield f"{name} :\n    _≡_ {{A = List {kind}}} ("
+    yield f"{name} :\n    {function} ("
     for note, call, _ in found:
         yield f"    {note}\n    {call}\n    ∷"
-    yield "    []) ("
+    yield "    [])\n    ≡ ("
     for note, _, answer in found:
         yield f"    {note}\n    {answer}\n    ∷"
-    yield f"    [])\n{opened}\n{name} = refl\n"
+    yield f"    [])\nunfolding {opened}\n{name} = rw {function}-computed refl\n"
+
+
+def largest_shares():
+    """256 devices of capacities up to the largest share the largest range: each starts at its lower quota, and the points left over go to
+    the largest c / (s + 1), equal ones to the lower id."""
+    size, devices = 2**32, [(d, 16_000_000 - 62_499 * (d * d % 256)) for d in range(1, 257)]
+    total = sum(c for _, c in devices)
+    shares = [size * c // total for _, c in devices]
+    for _ in range(size - sum(shares)):
+        best = max(range(256), key=lambda i: (Fraction(devices[i][1], shares[i] + 1), -devices[i][0]))
+        shares[best] += 1
+    ds = listed([f"device {d} {c}" for d, c in devices])
+    found = runs([(n, d) for n, (d, _) in zip(shares, devices)])
+    yield f"largest-shares : shares {size}\n    ({ds})\n    ≡ {found}"
+    yield "unfolding computed\nlargest-shares = rw shares-computed refl\n"
 
 
 def main():
     vectors = Vectors(sys.argv[1])
     out = [HEAD]
-    opened = "unfolding seenOf called change turns shares largestRemainder"
-    out += listing("direct-calls", "Answer", calls(vectors), opened)
-    out += listing("direct-reports", "Report", reports(vectors), "unfolding told shares largestRemainder")
+    out += listing("direct-calls", "answers", calls(vectors), "seenOf turns computed")
+    out += listing("direct-reports", "reports", reports(vectors), "told computed")
+    out += largest_shares()
     for path in vectors.histories:
         if path.read_bytes().count(b"\n") > MOST_LINES:
             continue
@@ -179,7 +231,7 @@ def main():
         prints = "".join(f"    (prints ({a})\n" for a in answers)
         out.append(f"history-{name} : replay (fresh {' '.join(size)})\n    ({listed(changes)})\n    ≡")
         out.append(f"{prints}    (ends ({runs(table)})){')' * len(answers)}")
-        out.append(f"unfolding replay change turns shares largestRemainder\nhistory-{name} = refl\n")
+        out.append(f"unfolding turns computed\nhistory-{name} = rw replay-computed refl\n")
     sys.stdout.write("\n".join(out))
 
 

@@ -8,6 +8,8 @@
 //   text H           the history
 mod plans;
 mod rules;
+#[path = "../shares/steps.rs"]
+mod shares;
 
 use std::hint::black_box;
 use std::io::Write;

@@ -1,7 +1,8 @@
 // The steps of crates/six_steps, opened and plans: a change of an opened pool, worked out by device row.
 // A run is one number, size × 65,536 + row; a piece has 256 more where it is taken; a turn is old × 256 +
 // new.
-use crate::rules::{cut_interval, delete_row, insert_row, outside, shares};
+use crate::rules::{cut_interval, delete_row, insert_row, outside};
+use crate::shares::shares;
 
 // Two runs for each of 4,096 intervals, and one for each of 256 devices.
 pub const ROOM: usize = 8448;
@@ -217,7 +218,7 @@ fn find(ids: &[u64; 256], n: usize, id: u64) -> (usize, bool) {
 }
 
 fn shared(before: &Opened, n: usize, ids: &[u64; 256], capacities: &[u64; 256]) -> Opened {
-    let has = shares(before.range, ids, capacities, n);
+    let has = shares(before.range, capacities, n);
     Opened { devices: n, ids: *ids, capacities: *capacities, has, ..*before }
 }
 

@@ -1,4 +1,4 @@
-// The cut of an interval, the shares and rows of devices, with the steps of the crates slicing_core and shares.
+// The cut of an interval and rows of devices, with the steps of the crate slicing_core.
 pub fn insert_row(rows: &[u64; 256], p: usize, value: u64) -> [u64; 256] {
     let mut into = [0; 256];
     for i in 0..256 {
@@ -17,43 +17,6 @@ pub fn delete_row(rows: &[u64; 256], p: usize) -> [u64; 256] {
     let mut into = [0; 256];
     for i in 0..255 {
         into[i] = if i < p { rows[i] } else { rows[i + 1] };
-    }
-    into
-}
-
-fn rank(remainders: &[u64; 256], ids: &[u64; 256], n: usize, p: usize) -> u64 {
-    let own = remainders[p];
-    let id = ids[p];
-    let mut before = 0;
-    for i in 0..n {
-        let other = remainders[i];
-        if own < other {
-            before += 1;
-        } else if own == other && ids[i] < id {
-            before += 1;
-        }
-    }
-    before
-}
-
-pub fn shares(range: u64, ids: &[u64; 256], capacities: &[u64; 256], n: usize) -> [u64; 256] {
-    let mut c = 0;
-    for i in 0..n {
-        c += capacities[i];
-    }
-    let mut floors = [0; 256];
-    let mut remainders = [0; 256];
-    let mut given = 0;
-    for i in 0..n {
-        let product = range * capacities[i];
-        floors[i] = product / c;
-        remainders[i] = product % c;
-        given += product / c;
-    }
-    let leftover = range - given;
-    let mut into = [0; 256];
-    for i in 0..n {
-        into[i] = if rank(&remainders, ids, n, i) < leftover { floors[i] + 1 } else { floors[i] };
     }
     into
 }

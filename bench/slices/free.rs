@@ -4,6 +4,7 @@ use std::io::{Read, Write};
 use std::mem::ManuallyDrop;
 use std::os::fd::FromRawFd;
 
+mod divisors;
 include!("pool.rs");
 include!("history.rs");
 

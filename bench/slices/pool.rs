@@ -28,7 +28,6 @@ pub struct Pool {
     slot: [u8; 257],
     share: [u64; 257],
     next: [u64; 257],
-    key: [u64; 257],
     id_of_slot: [u16; 256],
     free: [u8; 256],
     rel: [u64; 256],
@@ -52,7 +51,6 @@ impl Pool {
         slot: [0; 257],
         share: [0; 257],
         next: [0; 257],
-        key: [0; 257],
         id_of_slot: [0; 256],
         free: [0; 256],
         rel: [0; 256],
@@ -87,104 +85,10 @@ impl Pool {
         }
     }
 
-    /// New shares of the n devices into `next`: greatest divisors (document 02, Wish 4). Floors, then the
-    /// points left over, fewer than n, from a heap of the next quotients.
-    #[cfg(divisors)]
-    #[inline(always)]
-    fn shares(&mut self) {
-        let n = self.n;
-        let (c, r) = (self.sum, self.r);
-        let (cap, next) = (&self.cap[..n], &mut self.next[..n]);
-        let mut left = r;
-        for i in 0..n {
-            let s = r * cap[i] as u64 / c;
-            next[i] = s;
-            left -= s;
-        }
-        if left == 0 {
-            return;
-        }
-        let mut heap = [0u8; 256];
-        // whether row a's next quotient goes before row b's; rows stand by rising id
-        let before = |next: &[u64], a: u8, b: u8| {
-            let x = cap[a as usize] as u64 * (next[b as usize] + 1);
-            let y = cap[b as usize] as u64 * (next[a as usize] + 1);
-            x > y || (x == y && a < b)
-        };
-        fn sift(heap: &mut [u8], n: usize, mut k: usize, before: impl Fn(u8, u8) -> bool) {
-            loop {
-                let mut m = 2 * k + 1;
-                if m >= n {
-                    return;
-                }
-                if m + 1 < n && before(heap[m + 1], heap[m]) {
-                    m += 1;
-                }
-                if !before(heap[m], heap[k]) {
-                    return;
-                }
-                heap.swap(m, k);
-                k = m;
-            }
-        }
-        for i in 0..n {
-            heap[i] = i as u8;
-        }
-        for k in (0..n / 2).rev() {
-            sift(&mut heap, n, k, |a, b| before(next, a, b));
-        }
-        while left > 0 {
-            next[heap[0] as usize] += 1;
-            left -= 1;
-            sift(&mut heap, n, 0, |a, b| before(next, a, b));
-        }
-    }
-
     /// New shares of the n devices into `next`.
-    #[cfg(not(divisors))]
     #[inline(always)]
     fn shares(&mut self) {
-        let n = self.n;
-        let c = self.sum;
-        let r = self.r;
-        let (cap, next, key) = (&self.cap[..n], &mut self.next[..n], &mut self.key[..n]);
-        let mut left = r;
-        // R * c < 2^53 and the rounding error of the f64 quotient is below 1/C: the cut is exact.
-        let cf = c as f64;
-        for i in 0..n {
-            let x = r * cap[i] as u64;
-            let s = unsafe { (x as i64 as f64 / cf).to_int_unchecked::<i64>() as u64 };
-            next[i] = s;
-            left -= s;
-            key[i] = ((x - s * c) << 8) | (255 - i as u64);
-        }
-        let left = left as usize;
-        if left != 0 {
-            let mut scratch = [const { std::mem::MaybeUninit::<u64>::uninit() }; 256];
-            let limit = unsafe {
-                let p = scratch.as_mut_ptr() as *mut u64;
-                if n <= 12 {
-                    // insertion sort, largest first
-                    for i in 0..n {
-                        let k = key[i];
-                        let mut j = i;
-                        while j > 0 && *p.add(j - 1) < k {
-                            *p.add(j) = *p.add(j - 1);
-                            j -= 1;
-                        }
-                        *p.add(j) = k;
-                    }
-                    *p.add(left - 1)
-                } else {
-                    std::ptr::copy_nonoverlapping(key.as_ptr(), p, n);
-                    let s = std::slice::from_raw_parts_mut(p, n);
-                    *s.select_nth_unstable(n - left).1
-                }
-            };
-            for i in 0..n {
-                next[i] += (key[i] >= limit) as u64;
-            }
-        }
+        divisors::shares(self.r, &self.cap[..self.n], self.sum, &mut self.next[..self.n]);
     }
 
     /// Steps 1 to 6. `gone` is (slot, old share) of a removed device.

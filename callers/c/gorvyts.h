@@ -52,7 +52,7 @@ enum {
     GORVYTS_TOO_FEW_OWNERS = 12,  /* copies: fewer than k different owners in 256 probes */
     GORVYTS_POINT_PAST_RANGE = 13, /* owner: the point is at or above R */
     GORVYTS_NO_IMAGE = 14,        /* an image: under 19 bytes, or another mark */
-    GORVYTS_OTHER_VERSION = 15,   /* an image: another version */
+    GORVYTS_OTHER_VERSION = 15,   /* an image: a version other than 2 */
     GORVYTS_FAULTY_IMAGE = 16,    /* an image: any other fault */
     GORVYTS_BUFFER_TOO_SHORT = 17 /* a buffer, a row or an answer is too short */
 };
@@ -66,7 +66,8 @@ enum {
 #define GORVYTS_INTERVALS_MOST 4096
 #define GORVYTS_CAPACITY_MOST 16000000
 
-/* Whether the bytes are the image of a pool: 0, 14, 15 or 16. */
+/* Whether the bytes are the image of a pool: 0, 14, 15 or 16. An image has version 2; one of version 1, from before
+ * the share rule of Wish 4, gets 15. */
 uint32_t gorvyts_check(const uint8_t *image, size_t image_size);
 
 /* The image of a fresh pool of range R and interval limit M. answer[0]: its length.
@@ -87,14 +88,15 @@ uint32_t gorvyts_transcript(const uint8_t *text, size_t text_size, uint8_t *out,
  * Refusals: 14, 15, 16; 17 where the answer has under 4 places. */
 uint32_t gorvyts_numbers(const uint8_t *image, size_t image_size, uint64_t *answer, size_t answer_size);
 
-/* The share of a device. answer[0]: its points.
+/* The share of a device: how many of the quotients of its capacity by 1, 2, 3 and so on are among the R largest of all
+ * devices, where of equal ones that of the lower id comes first. answer[0]: its points.
  * Refusals: 14, 15, 16; 2 where the id is not within 1 to 65,535; 5; 17. */
 uint32_t gorvyts_share(const uint8_t *image, size_t image_size, uint64_t id, uint64_t *answer, size_t answer_size);
 
 /* The report on a device: what it is exactly due, R × c / C with C the sum of all capacities, and how far its share
  * lies from that. answer[0]: R × c divided by C as a whole number, answer[1]: the remainder; difference, one number
- * with a sign: share × C − R × c. It is 0 exactly where the remainder is 0 and lies strictly between −C and C, and
- * the differences of all devices add up to 0.
+ * with a sign: share × C − R × c. It lies strictly between −C and n × C for n devices and is 0 only where the
+ * remainder is 0, and the differences of all devices add up to 0.
  * Refusals: 14, 15, 16; 2 where the id is not within 1 to 65,535; 5; then answer[0], answer[1] and the difference
  * are 0. 17 where the answer has under 2 places; then the difference stays as well. */
 uint32_t gorvyts_report(const uint8_t *image, size_t image_size, uint64_t id, uint64_t *answer, size_t answer_size,
@@ -114,7 +116,8 @@ uint32_t gorvyts_intervals(const uint8_t *image, size_t image_size, uint64_t *ro
 /* Changes: from the image of a pool to that of the changed pool, in `next`. The moves go to `list`, four
  * numbers each: start, length, old owner, new owner; list_size counts numbers, so that it has
  * list_size / 4 places. Capacities are in thousandths of a TB, 1 to GORVYTS_CAPACITY_MOST. answer[0]: the
- * length of the new image, answer[1]: the moved points, answer[2]: the number of moves.
+ * length of the new image, answer[1]: the moved points, answer[2]: the number of moves. An add moves points only to
+ * the added device, a remove only from the removed one, a resize only to the named one or only from it.
  * Refusals: 14, 15, 16; 2, 4, 6, 8, 9 of an add; 2, 5, 7, 8, 9 of a remove; 2, 5, 8, 9 of a resize; 17. */
 uint32_t gorvyts_add(const uint8_t *image, size_t image_size, uint64_t id, uint64_t capacity,
                      uint8_t *next, size_t next_size, uint64_t *list, size_t list_size, uint64_t *answer, size_t answer_size);

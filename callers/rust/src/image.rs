@@ -71,8 +71,8 @@ pub struct Report {
     pub whole: u64,
     /// The remainder of that division.
     pub remainder: u64,
-    /// share × C − R × c: 0 exactly where the remainder is 0, and strictly between −C and C. Those of all devices of
-    /// a pool add up to 0.
+    /// share × C − R × c: strictly between −C and n × C for n devices, and 0 only where the remainder is 0. Those of
+    /// all devices of a pool add up to 0.
     pub difference: i64,
 }
 
@@ -106,7 +106,7 @@ pub struct Tally {
 }
 
 impl Image {
-    /// The bytes as an image. Refusals: 14, 15, 16.
+    /// The bytes as an image. Refusals: 14, 15 for a version other than 2, 16.
     pub fn check(bytes: impl Into<Vec<u8>>) -> Result<Image, Refusal> {
         let bytes = bytes.into();
         Refusal::unless_accepted(calls::check(&bytes))?;

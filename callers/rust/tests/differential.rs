@@ -2,7 +2,9 @@
 //!
 //! A call is made twice with equal buffers, by the library and by the reference. The numbers returned must be
 //! equal, and so must every place of every buffer, with the places around it that are not lent. Which numbers
-//! occurred is counted for each call, and the test fails where one that the call can return did not occur.
+//! occurred is counted for each call, and the test fails where one that the call can return did not occur. The moves
+//! of each accepted change must go only to an added device, only from a removed one, and only to or only from one that
+//! is resized.
 //!
 //! GORVYTS_SEED (a number) gives other inputs and GORVYTS_ROUNDS (default 150) more or fewer. A difference is
 //! printed with its seed and round; GORVYTS_ONLY runs that round alone.
@@ -15,7 +17,7 @@ use std::env;
 use std::fmt::Debug;
 
 use gorvyts::{calls, DeviceRow, Image, IntervalRow};
-use inputs::pools::{alternating, composed, swept, Change, Plan};
+use inputs::pools::{alternating, by_both_rules, composed, swept, Change, Plan};
 use inputs::{images, pools, texts, Random};
 use reference::calls as expected;
 use reference::history;
@@ -48,6 +50,7 @@ fn every_call_is_the_reference() {
         trial.list_of_changes(random);
         trial.given_pools(random);
         trial.swept_pools(random);
+        trial.pools_by_both_rules(random);
         trial.histories(random);
     }
     trial.print();
@@ -64,7 +67,7 @@ fn number(variable: &str) -> Option<u64> {
 }
 
 /// What each call can return, and what can stand in a row and in a line of a transcript. A move list of 4,096
-/// places, as transcripts have it, is enough for all histories here, so that no line gets 9.
+/// places, as transcripts have it, is enough for every change (`swept`), so that no line gets 9.
 const CAN_OCCUR: [(&str, &[u32]); 20] = [
     ("check", &[0, 14, 15, 16]),
     ("fresh", &[0, 2, 17]),
@@ -256,11 +259,26 @@ impl Trial {
         }
     }
 
-    /// A change that may have more moves than the pool has intervals.
+    /// A change that has as many moves as the pool has intervals.
     fn swept_pools(&mut self, random: &mut Random) {
         let (pool, change) = swept(random);
         assert_eq!(self.check(&image::write(&pool)), 0);
         self.change_near(random, &pool, change);
+    }
+
+    /// A pool, and what it is with the shares of before Wish 4, each in an image of version 2, 1 and 3.
+    fn pools_by_both_rules(&mut self, random: &mut Random) {
+        let (pool, before) = by_both_rules(random);
+        for (pool, expected) in [(pool, 0), (before, 16)] {
+            let mut bytes = image::write(&pool);
+            assert_eq!(self.check(&bytes), expected);
+            self.any_call(random, &bytes, &pool);
+            for version in [1u16, 3] {
+                bytes[3..5].copy_from_slice(&version.to_be_bytes());
+                assert_eq!(self.check(&bytes), 15);
+                self.any_call(random, &bytes, &pool);
+            }
+        }
     }
 
     fn histories(&mut self, random: &mut Random) {
@@ -372,13 +390,16 @@ impl Trial {
         let table = pool.table.iter();
         let rows = table.map(|i| IntervalRow { start: i.start, length: i.length, owner: i.owner });
         assert!(rows.eq(intervals.iter().copied()));
+        let count = devices.len() as i64;
+        let capacities: i64 = devices.iter().map(|row| row.capacity as i64).sum();
         let mut sum = 0;
         for row in devices {
             assert_eq!(image.share(row.id), Ok(row.share));
             let (report, due) = (image.report(row.id).unwrap(), pool.report(row.id).unwrap());
             assert_eq!((report.whole, report.remainder), (due.whole, due.remainder));
             assert_eq!(report.difference, due.difference);
-            assert_eq!(report.difference == 0, report.remainder == 0);
+            assert!(report.difference != 0 || report.remainder == 0);
+            assert!(-capacities < report.difference && report.difference < count * capacities);
             sum += report.difference;
         }
         assert_eq!(sum, 0);
@@ -588,11 +609,13 @@ impl Trial {
                 ),
             ),
         };
+        let moves = if number == (0, 0) { 4 * answer2.lend()[2] as usize } else { 0 };
         let apart = [
             next.apart("next", &next2),
             list.apart("list", &list2),
             answer.apart("answer", &answer2),
             changed("image", &lent, bytes),
+            astray(change, &list.lend()[..moves]),
         ];
         self.told(call, number, apart, || format!("{change:?}, {sizes:?}, image {}", hex(bytes)))
     }
@@ -776,6 +799,19 @@ impl Trial {
     }
 }
 
+/// Says so where one of the moves, four numbers each, is not only to an added device, only from a removed one, or
+/// only to or only from the one that is resized.
+fn astray(change: Change, moves: &[u64]) -> Option<String> {
+    let only_from = |id| moves.chunks_exact(4).all(|one| one[2] == id);
+    let only_to = |id| moves.chunks_exact(4).all(|one| one[3] == id);
+    let right = match change {
+        Change::Add(id, _) => only_to(id),
+        Change::Remove(id) => only_from(id),
+        Change::Resize(id, _) => only_to(id) || only_from(id),
+    };
+    (!right).then(|| "moves between other devices".to_string())
+}
+
 /// Says so where a call changed what it only reads.
 fn changed<T: PartialEq>(name: &str, lent: &[T], before: &[T]) -> Option<String> {
     (lent != before).then(|| format!("{name} is changed"))
@@ -844,7 +880,7 @@ impl Trial {
     fn assert_all_occurred(&self) {
         assert_eq!(self.most_devices, DEVICES_MOST);
         assert_eq!(self.most_intervals as u64, LIMIT_MOST);
-        assert!(self.most_moves as u64 > LIMIT_MOST);
+        assert_eq!(self.most_moves as u64, LIMIT_MOST);
         for (call, numbers) in CAN_OCCUR {
             for &number in numbers {
                 let count = self.occurred.get(&(call, number)).copied().unwrap_or(0);

@@ -6,6 +6,7 @@ mod reference;
 use gorvyts::calls::CAPACITY_MOST;
 use gorvyts::{Copies, DeviceRow, Image, IntervalRow, Move, Numbers, Refusal, Report, Tally};
 use reference::history;
+use reference::image;
 use reference::lookup::point_of_word;
 use reference::pool::{self, shares, Device, Pool};
 use reference::sha1;
@@ -80,12 +81,45 @@ fn k9_and_k10_small_limits() {
 }
 
 #[test]
-fn k11_old_devices_swap_a_point() {
+fn k11_old_devices_swap_no_point() -> Result<(), Refusal> {
     let before = built(10, 16, &[(1, 143), (2, 857)]);
     assert_eq!(shares(10, &before.devices), [1, 9]);
     let after = before.add(3, 30, 4096).unwrap();
-    assert_eq!(shares(10, &after.pool.devices), [2, 8, 0]);
-    assert_eq!(after.moves, [pool::Move { start: 9, length: 1, from: 2, to: 1 }]);
+    assert_eq!(shares(10, &after.pool.devices), [1, 9, 0]);
+    assert_eq!((after.moves, after.moved), (vec![], 0));
+
+    let change = Image::replay(b"range 10 16\nadd 1 0.143\nadd 2 0.857\n")?.add(3, 30)?;
+    assert_eq!([1, 2, 3].map(|id| change.image.share(id)), [1, 9, 0].map(Ok));
+    assert_eq!((change.moves, change.moved), (vec![], 0));
+    Ok(())
+}
+
+/// Wish 4 as it is worded: the quotients of all devices in one list, from the largest, equal ones by lower id, and of
+/// the first R those of each device. No device has more than R among them.
+fn by_quotients(range: u64, devices: &[Device]) -> Vec<u64> {
+    let mut quotients: Vec<(u64, u64, u64)> =
+        devices.iter().flat_map(|d| (1..=range).map(|i| (d.capacity, i, d.id))).collect();
+    quotients.sort_by(|&(c, i, a), &(d, j, b)| (d * i).cmp(&(c * j)).then(a.cmp(&b)));
+    quotients.truncate(range as usize);
+    devices.iter().map(|d| quotients.iter().filter(|q| q.2 == d.id).count() as u64).collect()
+}
+
+#[test]
+fn shares_are_those_of_the_quotients() {
+    let mut lists =
+        vec![vec![1_000; 7], vec![16_000_000, 1, 1], vec![5_000, 1_000, 1_000, 1_000, 1_000, 1_000]];
+    for a in 1..=9 {
+        for b in 1..=9 {
+            lists.extend([vec![a, b], vec![a, b, 4], vec![4, a, b], vec![1, a, b, a, 30]]);
+        }
+    }
+    for capacities in lists {
+        let devices: Vec<Device> =
+            (1..).zip(capacities).map(|(place, capacity)| Device { id: 5 * place, capacity }).collect();
+        for range in 1..=60 {
+            assert_eq!(shares(range, &devices), by_quotients(range, &devices), "{range} {devices:?}");
+        }
+    }
 }
 
 #[test]
@@ -153,6 +187,45 @@ fn reports_on_three_equal() -> Result<(), Refusal> {
         assert_eq!((answer, difference), ([0, 0, 7], 0));
     }
     Ok(())
+}
+
+/// A device whose exact due is a whole number may have more.
+#[test]
+fn reports_with_no_remainder() -> Result<(), Refusal> {
+    let six = Image::replay(b"range 4 16\nadd 1 5\nadd 2 1\nadd 3 1\nadd 4 1\nadd 5 1\nadd 6 1\n")?;
+    assert_eq!(six.report(1), Ok(Report { whole: 2, remainder: 0, difference: 20_000 }));
+    for id in 2..=6 {
+        assert_eq!(six.report(id), Ok(Report { whole: 0, remainder: 4_000, difference: -4_000 }));
+    }
+    Ok(())
+}
+
+#[test]
+fn versions_of_images() -> Result<(), Refusal> {
+    let bytes = Image::replay(EXAMPLE)?.into_bytes();
+    assert_eq!(bytes[3..5], [0, 2]);
+    for (version, expected) in [(2u16, 0), (0, 15), (1, 15), (3, 15), (256, 15), (513, 15), (65_535, 15)] {
+        let mut other = bytes.clone();
+        other[3..5].copy_from_slice(&version.to_be_bytes());
+        assert_eq!(image::read(&other).err().unwrap_or(0), expected);
+        assert_eq!(gorvyts::calls::check(&other), expected);
+    }
+    Ok(())
+}
+
+/// K11's pool after the add, with the shares of before Wish 4 (2, 8, 0) and with its own.
+#[test]
+fn shares_of_before_wish_4() {
+    let pool = built(10, 16, &[(1, 143), (2, 857), (3, 30)]);
+    assert_eq!(table(&pool), [(0, 0, 1), (1, 9, 2)]);
+    let mut before = pool.clone();
+    before.table[0].length = 2;
+    before.table[1].start = 2;
+    for (pool, expected) in [(pool, 0), (before, 16)] {
+        let bytes = image::write(&pool);
+        assert_eq!(image::read(&bytes).err().unwrap_or(0), expected);
+        assert_eq!(gorvyts::calls::check(&bytes), expected);
+    }
 }
 
 #[test]

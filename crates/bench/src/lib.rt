@@ -3,3 +3,4 @@ mod checksums;
 mod copies;
 mod digests;
 mod histories;
+mod share_rules;

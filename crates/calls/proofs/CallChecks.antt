@@ -19,6 +19,7 @@ use Rattle.slicing.specs.Changes.{State, Change, change, add, remove, resize, a
 use Rattle.slicing.specs.Devices.{Device, device, present, insert, delete, update, Within}
 use Rattle.slicing.specs.Limits.{maxDevices, maxId, maxCapacity, outside, deviceOutside}
 use Rattle.slicing.specs.Runs.{_of_}
+use Rattle.slicing.specs.ShareRule.{shares}
 use Rattle.slicing.specs.SixSteps.{Move}
 use Rattle.slicing.proofs.Limits.{or-false, outside-false}
 use Rattle.slicing_core.specs.Rows.{at, deviceRows}
@@ -61,10 +62,10 @@ inside-limits d c m =
 
 -- what the rules say of the state by the names of the rows, they say of the opened pool
 settle-prepared : {o : Opened} {table : List ℕ} {e : Opened} {rs : Rows} {work : List ℕ} {es : List Device} → Prepared o table e rs work es
-    → (lent : List Move) → settle (stateBy o rs work) lent (devicesIn e) ≡ settle (stateIn o table) lent es
-settle-prepared {o} {table} {e} p lent = ap (λ s. settle s lent (devicesIn e)) (p .state) ∙ ap (settle (stateIn o table) lent) (p .devices)
+    → (lent : List Move) → settle shares (stateBy o rs work) lent (devicesIn e) ≡ settle shares (stateIn o table) lent es
+settle-prepared {o} {table} {e} p lent = ap (λ s. settle shares s lent (devicesIn e)) (p .state) ∙ ap (settle shares (stateIn o table) lent) (p .devices)
 
-admit-some : (s : State) (lent : List Move) (d c : ℕ) (ds : List Device) → 1 ≤ length ds → admit s lent d c ds ≡ settle s lent (insert d c ds)
+admit-some : (s : State) (lent : List Move) (d c : ℕ) (ds : List Device) → 1 ≤ length ds → admit shares s lent d c ds ≡ settle shares s lent (insert d c ds)
 admit-some s lent d c [] l = absurd (omega arith)
 admit-some s lent d c (x ∷ ds) l = refl
 
@@ -107,7 +108,7 @@ module _ (o : Opened) (table : List ℕ) (d : ℕ) {places : ℕ} {r : Plan} {wo
           planned-same (λ lent l. rw (m, none))
 
       pub add-settle : present d (devicesIn o) ≡ false → o .devices < maxDevices → 1 ≤ o .devices → {e : Opened} {rs : Rows} {rows : List ℕ}
-          → Prepared o table e rs rows (insert d c (devicesIn o)) → Planned (λ lent. settle (stateBy o rs rows) lent (devicesIn e)) places o r work next
+          → Prepared o table e rs rows (insert d c (devicesIn o)) → Planned (λ lent. settle shares (stateBy o rs rows) lent (devicesIn e)) places o r work next
           → PlanOf o table (add d c) places r work next
       unfolding change
       add-settle g n some p =
@@ -120,7 +121,7 @@ module _ (o : Opened) (table : List ℕ) (d : ℕ) {places : ℕ} {r : Plan} {wo
       resize-five g e = planned-refused (stateIn o table) 5 (omega arith) e (λ lent l. rw (m, g))
 
       pub resize-settle : present d (devicesIn o) ≡ true → {e : Opened} {rs : Rows} {rows : List ℕ}
-          → Prepared o table e rs rows (update d c (devicesIn o)) → Planned (λ lent. settle (stateBy o rs rows) lent (devicesIn e)) places o r work next
+          → Prepared o table e rs rows (update d c (devicesIn o)) → Planned (λ lent. settle shares (stateBy o rs rows) lent (devicesIn e)) places o r work next
           → PlanOf o table (resize d c) places r work next
       unfolding change
       resize-settle g p = planned-same (λ lent l. settle-prepared p lent ∙ sym (rw (m, g)))
@@ -140,7 +141,7 @@ module _ (o : Opened) (table : List ℕ) (d : ℕ) {places : ℕ} {r : Plan} {wo
         planned-refused (stateIn o table) 7 (omega arith) e (λ lent l. rw (i, g, le-leb (length (devicesIn o)) 1 (omega (arith, length-devices o))))
 
     pub remove-settle : present d (devicesIn o) ≡ true → 1 < o .devices → {e : Opened} {rs : Rows} {rows : List ℕ}
-        → Prepared o table e rs rows (delete d (devicesIn o)) → Planned (λ lent. settle (stateBy o rs rows) lent (devicesIn e)) places o r work next
+        → Prepared o table e rs rows (delete d (devicesIn o)) → Planned (λ lent. settle shares (stateBy o rs rows) lent (devicesIn e)) places o r work next
         → PlanOf o table (remove d) places r work next
     unfolding change
     remove-settle g n p =

@@ -11,17 +11,19 @@
 --   other calls            calls, as-the-rules, listed-moves
 --   accepted calls         image-written, image-rest, list-rest, answer-rest
 --   owners and shares      one-owner, exact-share
+--   which way moves go     add-only-to, remove-only-from, resize-one-way
 --   a call that found one  moved-count, owners-of-moves, moves-alone, no-other-fewer
 use mathlib.Core.Path.{_≡_, refl, sym, ap, _∙_}
 use mathlib.Core.Bool.{Bool, true, false, not, false≢true}
 use mathlib.Core.List.{List, [], _∷_, _++_, map}
+use mathlib.Core.Logic.{_⊎_}
 use Prim.Native.Nat.{ℕ, zero, suc, _*_, _≤_, _<_}
 use native.Mathlib.Omega.{arith}
 use lib.Dec.{eqb}
 use lib.ListN.{length, take, drop, List·getD-append}
 use lib.Seq.{drop-append-seam}
 use borrow.Author.Tests.{eqb-true, eqb-false}
-use Rattle.slicing.specs.Changes.{Outcome, change}
+use Rattle.slicing.specs.Changes.{add, remove, resize, Outcome, change}
 use Rattle.slicing.specs.Claims as Rules
 use Rattle.slicing.specs.Ledger.{Ledger, feed}
 use Rattle.slicing.specs.ShareRule.{shareOf}
@@ -241,6 +243,17 @@ module _ (R M : ℕ) (was : List ℕ) (old : Ledger) (e : Exported) (facts : Fac
 
     pub answer-rest : (j : ℕ) → 3 ≤ j → at (e .left .answer) j ≡ at (e .answer) j
     answer-rest j l = Calls.same-behind 3 (e .left .answer) (e .answer) (claim .answerRest z) j 0 l
+
+    -- 'An add must move points only to the new disk, a removal only from the old one, a resize only to or from the one named.'
+    pub add-only-to : (d c : ℕ) → stepOf was e .change ≡ add d c → (i : ℕ) → i < length ms → moveAt ms i .to ≡ d
+    add-only-to d c q = Calls.add-only-to R M (poolIn was) old (stepOf was e) (calls other) d c q z
+
+    pub remove-only-from : (d : ℕ) → stepOf was e .change ≡ remove d → (i : ℕ) → i < length ms → moveAt ms i .from ≡ d
+    remove-only-from d q = Calls.remove-only-from R M (poolIn was) old (stepOf was e) (calls other) d q z
+
+    pub resize-one-way : (d c : ℕ) → stepOf was e .change ≡ resize d c
+        → ((i : ℕ) → i < length ms → moveAt ms i .to ≡ d) ⊎ ((i : ℕ) → i < length ms → moveAt ms i .from ≡ d)
+    resize-one-way d c q = Calls.resize-one-way R M (poolIn was) old (stepOf was e) (calls other) d c q z
 
     -- ---- that found an entry
 

@@ -46,10 +46,10 @@ module _ (s : State) (lent : List Six.Move) where
       number-stop (ltb (s .limit) (length (newTable ts))) 8 _ (omega arith)
       (number-stop (ltb (length lent) (length (moves ts))) 9 _ (omega arith) (omega arith))
 
-  number-settle : (es : List Device) → settle s lent es .number ≤ 9
+  number-settle : (es : List Device) → settle shares s lent es .number ≤ 9
   number-settle es = number-settled (turns (s .table) (shares (s .range) (s .devices)) (shares (s .range) es)) es
 
-  number-admit : (d c : ℕ) (ds : List Device) → admit s lent d c ds .number ≤ 9
+  number-admit : (d c : ℕ) (ds : List Device) → admit shares s lent d c ds .number ≤ 9
   number-admit d c [] = omega arith
   number-admit d c (e ∷ ds) = number-settle (insert d c (e ∷ ds))
 

@@ -58,11 +58,11 @@ pub data Passes (s : State) (lent : List Move) : Change → List Device → List
       → length (moves (turnsTo s es)) ≤ length lent → Passes s lent k es (newTable (turnsTo s es)) (moves (turnsTo s es))
 
 module _ (s : State) (lent : List Move) where
-  admit-some : (d c : ℕ) (es : List Device) → 1 ≤ length es → admit s lent d c es ≡ settle s lent (insert d c es)
+  admit-some : (d c : ℕ) (es : List Device) → 1 ≤ length es → admit shares s lent d c es ≡ settle shares s lent (insert d c es)
   admit-some d c [] h = absurd (omega arith)
   admit-some d c (e ∷ es) h = refl
 
-  settles : {k : Change} {es : List Device} → Settles s k es → change s lent k ≡ settle s lent es
+  settles : {k : Change} {es : List Device} → Settles s k es → change s lent k ≡ settle shares s lent es
   unfolding change
   settles (adds {d = d} {c = c} i j h l m) =
       rw (two-inside 65535 d 16000000 c i j, h, lt-leb 256 (length (s .devices)) m) (admit-some d c (s .devices) l)
@@ -84,7 +84,7 @@ module _ (s : State) (lent : List Move) where
       settles k ∙ rw (le-ltb (s .limit) (length (newTable (turnsTo s es))) l, lt-ltb (length lent) (length (moves (turnsTo s es))) m)
 
   admit-none : (d c : ℕ) (es : List Device) → length es ≡ 0
-      → stop s lent (present d es) 4 (stop s lent (leb 256 (length es)) 6 (admit s lent d c es))
+      → stop s lent (present d es) 4 (stop s lent (leb 256 (length es)) 6 (admit shares s lent d c es))
       ≡ accepted s lent (device d c ∷ []) ((s .range of d) ∷ []) []
   admit-none d c [] h = refl
   admit-none d c (e ∷ es) h = absurd (omega arith)

@@ -4,27 +4,34 @@
 --   Accepts p lent .. r l     r answers 0, the moved points, the number of moves, the new pool; the list has the moves and then what it had
 --   added, left, resized      the devices afterwards
 --   tableTo p es, movesTo p es    the joined new table, and the moves, where the points of p are given out anew to the devices es
--- all three: change-invalid (2, a pool that is not valid)
--- add: add-outside (2), add-present (4), add-full (6), add-wide (8), add-crowded (9); add-first, add-accepted
--- remove: remove-outside (2), remove-absent (5), remove-only (7), remove-wide (8), remove-crowded (9); remove-accepted
--- resize: resize-outside (2), resize-absent (5), resize-wide (8), resize-crowded (9); resize-accepted
-use mathlib.Core.Path.{_≡_, ap, _∙_}
+--   listed r after            the moves in the list
+-- all three: change-invalid (2, a pool that is not valid); change-directed (which way the moves go)
+-- add: add-outside (2), add-present (4), add-full (6), add-wide (8), add-crowded (9); add-first, add-accepted; add-only-to
+-- remove: remove-outside (2), remove-absent (5), remove-only (7), remove-wide (8), remove-crowded (9); remove-accepted; remove-only-from
+-- resize: resize-outside (2), resize-absent (5), resize-wide (8), resize-crowded (9); resize-accepted; resize-one-way
+use mathlib.Core.Path.{_≡_, sym, ap, _∙_, subst}
 use mathlib.Core.List.{List, [], _∷_, _++_, map}
+use mathlib.Core.Logic.{_⊎_}
 use Prim.Native.Nat.{ℕ, _≤_, _<_}
 use native.Mathlib.Omega.{arith}
-use lib.ListN.{length, drop, length-map}
-use lib.Seq.{take-append-seam}
-use Rattle.slicing.specs.Changes.{Change, add, remove, resize}
+use lib.ListN.{length, take, drop, length-map}
+use lib.Seq.{take-append-seam, take-at}
+use Rattle.slicing.specs.Changes.{Change, add, remove, resize, Outcome, change}
+use Rattle.slicing.specs.Claims.{moveAt, written}
 use Rattle.slicing.specs.Devices.{Device, device, insert, delete, update}
+use Rattle.slicing.specs.Directions.{Directed}
 use Rattle.slicing.specs.Runs.{Run, _of_}
 use Rattle.slicing.specs.SixSteps as Rules
 use Rattle.slicing.specs.SixSteps.{newTable, moves, points}
+use Rattle.slicing.proofs.Claims.{claim-valid}
+use Rattle.slicing.proofs.Directions.{directed}
 use Rattle.pools.specs.Pools.{stateOf, poolOf, ValidPool}
 use Rattle.placement.specs.declared.ChangeAnswer.{ChangeAnswer}
 use Rattle.pools.specs.declared.Pool.{Pool}
-use Rattle.placement.specs.Promises.{moveOf, rowOf, Changed}
+use Rattle.placement.specs.Promises.{moveOf, rowOf, Answered, Changed}
 use Rattle.placement.specs.declared.Move.{Move}
 use Rattle.demand3.specs.Points.{Listed}
+use Rattle.demand3.proofs.Demand3.{map-back}
 use Rattle.guarantees.proofs.ChangeRules as Rule
 use Rattle.guarantees.proofs.ChangeRules.{turnsTo, Settles, Stops, Passes, stops, passes}
 use Rattle.guarantees.proofs.Conditions.{Inside, listed-present, unlisted-absent, length-devices}
@@ -182,3 +189,39 @@ module _ (p : Pool) (lent : List Move) (r : ChangeAnswer) (after : List Move) wh
           pub resize-accepted : length (tableTo p (resized p d c)) ≤ p .limit → length (movesTo p (resized p d c)) ≤ length lent
               → Accepts p lent (resized p d c) (tableTo p (resized p d c)) (movesTo p (resized p d c)) r after
           resize-accepted l m = change-settled v k resizes l m
+
+-- ---- which way the moves go (Wish 4)
+
+abbrev pub listed : ChangeAnswer → List Move → List Rules.Move
+listed r after = map moveOf (take (r .count) after)
+
+module _ (p : Pool) (lent : List Move) (r : ChangeAnswer) (after : List Move) (v : ValidPool p) where
+  change-directed : (k : Change) → Changed p lent k r after → r .refusal ≡ 0 → Directed k (listed r after)
+  change-directed k c z = subst (Directed k) (sym front) (directed (stateOf p) (v .valid) (map moveOf lent) k (sym (a .number) ∙ z))
+    where
+      o : Outcome
+      o = change (stateOf p) (map moveOf lent) k
+
+      a : Answered lent o (poolOf (o .state)) r after
+      a = c .valid v
+
+      lines : length (map rowOf (written o)) ≡ r .count
+      lines = length-map (written o) rowOf ∙ claim-valid (stateOf p) (v .valid) (map moveOf lent) k .counted ∙ sym (a .count)
+
+      front : listed r after ≡ written o
+      front =
+          ap (λ (l : List Move). map moveOf (take (r .count) l)) (a .list)
+          ∙ ap (map moveOf) (take-at (map rowOf (written o)) (drop (o .count) lent) (r .count) lines) ∙ map-back (written o)
+
+  -- 'An add must move points only to the new disk,
+  pub add-only-to : (d c : ℕ) → Changed p lent (add d c) r after → r .refusal ≡ 0 → (i : ℕ) → i < length (listed r after) → moveAt (listed r after) i .to ≡ d
+  add-only-to d c k = change-directed (add d c) k
+
+  -- a removal only from the old one,
+  pub remove-only-from : (d : ℕ) → Changed p lent (remove d) r after → r .refusal ≡ 0 → (i : ℕ) → i < length (listed r after) → moveAt (listed r after) i .from ≡ d
+  remove-only-from d k = change-directed (remove d) k
+
+  -- a resize only to or from the one named.'
+  pub resize-one-way : (d c : ℕ) → Changed p lent (resize d c) r after → r .refusal ≡ 0
+      → ((i : ℕ) → i < length (listed r after) → moveAt (listed r after) i .to ≡ d) ⊎ ((i : ℕ) → i < length (listed r after) → moveAt (listed r after) i .from ≡ d)
+  resize-one-way d c k = change-directed (resize d c) k

@@ -64,8 +64,8 @@ use Rattle.guarantees.proofs.Lookups.{halvedIn}
 pub data Unreadable (xs : List ℕ) : ℕ → Type 0 where
   few-bytes : length xs < 19 → Unreadable xs 14
   other-mark : 19 ≤ length xs → (Mark xs → ⊥) → Unreadable xs 14
-  other-version : 19 ≤ length xs → Mark xs → (versionIn xs ≡ 1 → ⊥) → Unreadable xs 15
-  other-fault : 19 ≤ length xs → Mark xs → versionIn xs ≡ 1 → (Sound xs → ⊥) → Unreadable xs 16
+  other-version : 19 ≤ length xs → Mark xs → (versionIn xs ≡ 2 → ⊥) → Unreadable xs 15
+  other-fault : 19 ≤ length xs → Mark xs → versionIn xs ≡ 2 → (Sound xs → ⊥) → Unreadable xs 16
 
 module _ {A : Type 0} {xs : List ℕ} {f : ℕ → A} {g : State → A} {r : A} where
   fourteen : OnImage xs f g r → marked xs ≡ false → r ≡ f 14
@@ -74,13 +74,13 @@ module _ {A : Type 0} {xs : List ℕ} {f : ℕ → A} {g : State → A} {r : A} 
   fourteen (faulty h v s e) m = absurd (false≢true (sym m ∙ h))
   fourteen (accepted i e) m = absurd (false≢true (sym m ∙ i .first))
 
-  fifteen : OnImage xs f g r → marked xs ≡ true → (versionIn xs ≡ 1 → ⊥) → r ≡ f 15
+  fifteen : OnImage xs f g r → marked xs ≡ true → (versionIn xs ≡ 2 → ⊥) → r ≡ f 15
   fifteen (unmarked h e) m v = absurd (true≢false (sym m ∙ h))
   fifteen (versioned h w e) m v = e
   fifteen (faulty h w s e) m v = absurd (v w)
   fifteen (accepted i e) m v = absurd (v (i .second))
 
-  sixteen : OnImage xs f g r → marked xs ≡ true → versionIn xs ≡ 1 → (Sound xs → ⊥) → r ≡ f 16
+  sixteen : OnImage xs f g r → marked xs ≡ true → versionIn xs ≡ 2 → (Sound xs → ⊥) → r ≡ f 16
   sixteen (unmarked h e) m v n = absurd (true≢false (sym m ∙ h))
   sixteen (versioned h w e) m v n = absurd (w v)
   sixteen (faulty h w s e) m v n = e

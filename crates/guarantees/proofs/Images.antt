@@ -1,7 +1,7 @@
 -- The outcomes of `images::read` and `write`.
 --
--- read: read-short (14, under 19 bytes), read-unmarked (14, another mark), read-versioned (15), read-faulty (16), read-capacity (16, a
---   capacity outside its limits: capacity-faulty), read-image
+-- read: read-short (14, under 19 bytes), read-unmarked (14, another mark), read-versioned (15), read-version-one (15), read-faulty (16),
+--   read-capacity (16, a capacity outside its limits: capacity-faulty), read-shares (16, other points than a share: shares-faulty), read-image
 -- write: write-invalid (2), write-short (17), write-room
 use mathlib.Core.Path.{_≡_, sym, ap, _∙_}
 use mathlib.Core.Bool.{true, false, false≢true, true≢false}
@@ -10,8 +10,11 @@ use Prim.Native.Nat.{ℕ, zero, suc, _+_, _*_, _≤_, _<_}
 use native.Mathlib.Omega.{arith}
 use lib.ListN.{length, drop}
 use borrow.Author.Tests.{lt-ltb, le-ltb, le-leb, lt-leb, eq-eqb, ne-eqb}
+use Rattle.slicing.specs.Runs.{owned}
+use Rattle.slicing.specs.ShareRule.{shareOf}
 use Rattle.slicing_core.specs.Rows.{at}
 use Rattle.slicing_core.proofs.DeviceRows.{within-rising}
+use Rattle.slicing_core.proofs.Rows.{length-deviceRows}
 use Rattle.pools.specs.Pools.{stateOf, poolOf, ValidPool}
 use Rattle.pools.specs.declared.Pool.{Pool}
 use Rattle.pools.specs.declared.PoolAnswer.{PoolAnswer}
@@ -50,6 +53,10 @@ capacity-faulty xs i l h s =
     let e = at-column xs 4 21 (devicesIn xs) i l in
     h (rw (← e) (w .some), rw (← e) (w .most))
 
+pub shares-faulty : (xs : List ℕ) (d : ℕ) → 1 ≤ devicesIn xs → (owned d (stateIn xs .table) ≡ shareOf (stateIn xs .range) (stateIn xs .devices) d → ⊥) → Sound xs → ⊥
+unfolding stateIn
+shares-faulty xs d l h s = h (s .valid .held (omega (arith, l, length-deviceRows (idsIn xs) (capacitiesIn xs) 0 (devicesIn xs))) d)
+
 -- a number, and a fresh pool with R = 1 and M = 1
 abbrev pub Unread : ℕ → PoolAnswer → Type 0
 Unread n r = (r .refusal ≡ n) × WithoutDevices 1 1 (r .pool)
@@ -65,19 +72,19 @@ module _ (xs : List ℕ) (r : PoolAnswer) where
   fourteen (faulty h v s e) m = absurd (false≢true (sym m ∙ h))
   fourteen (accepted i e) m = absurd (false≢true (sym m ∙ i .first))
 
-  fifteen : ReadAs xs r → marked xs ≡ true → (versionIn xs ≡ 1 → ⊥) → Unread 15 r
+  fifteen : ReadAs xs r → marked xs ≡ true → (versionIn xs ≡ 2 → ⊥) → Unread 15 r
   fifteen (unmarked h e) m v = absurd (true≢false (sym m ∙ h))
   fifteen (versioned h w e) m v = unread 15 r e
   fifteen (faulty h w s e) m v = absurd (v w)
   fifteen (accepted i e) m v = absurd (v (i .second))
 
-  sixteen : ReadAs xs r → marked xs ≡ true → versionIn xs ≡ 1 → (Sound xs → ⊥) → Unread 16 r
+  sixteen : ReadAs xs r → marked xs ≡ true → versionIn xs ≡ 2 → (Sound xs → ⊥) → Unread 16 r
   sixteen (unmarked h e) m v n = absurd (true≢false (sym m ∙ h))
   sixteen (versioned h w e) m v n = absurd (w v)
   sixteen (faulty h w s e) m v n = unread 16 r e
   sixteen (accepted i e) m v n = absurd (n (i .sound))
 
-  pooled : ReadAs xs r → marked xs ≡ true → versionIn xs ≡ 1 → Sound xs → (r .refusal ≡ 0) × (r .pool ≡ poolOf (stateIn xs))
+  pooled : ReadAs xs r → marked xs ≡ true → versionIn xs ≡ 2 → Sound xs → (r .refusal ≡ 0) × (r .pool ≡ poolOf (stateIn xs))
   pooled (unmarked h e) m v s = absurd (true≢false (sym m ∙ h))
   pooled (versioned h w e) m v s = absurd (w v)
   pooled (faulty h w n e) m v s = absurd (n s)
@@ -92,10 +99,14 @@ module _ (xs : List ℕ) (r : PoolAnswer) where
       read-unmarked h = fourteen k (marked-other xs l h)
 
       module _ (m : Mark xs) where
-        pub read-versioned : (versionIn xs ≡ 1 → ⊥) → Unread 15 r
+        pub read-versioned : (versionIn xs ≡ 2 → ⊥) → Unread 15 r
         read-versioned h = fifteen k (marked-mark xs l m) h
 
-        module _ (v : versionIn xs ≡ 1) where
+        -- 'version 1 gets 15' (Wish 4)
+        pub read-version-one : versionIn xs ≡ 1 → Unread 15 r
+        read-version-one e = read-versioned (λ z. omega (arith, e, z))
+
+        module _ (v : versionIn xs ≡ 2) where
           -- another length than 19 + 6n + 6q, or against the rules of pool and shares
           pub read-faulty : (Sound xs → ⊥) → Unread 16 r
           read-faulty h = sixteen k (marked-mark xs l m) v h
@@ -103,6 +114,10 @@ module _ (xs : List ℕ) (r : PoolAnswer) where
           -- a capacity outside 1 to 16,000,000
           pub read-capacity : (i : ℕ) → i < devicesIn xs → (Inside 16000000 (numberAt xs (21 + 6 * i) 4) → ⊥) → Unread 16 r
           read-capacity i d h = read-faulty (capacity-faulty xs i d h)
+
+          -- a device with other points in the table than its share, as one by the rule before Wish 4 may have
+          pub read-shares : (d : ℕ) → 1 ≤ devicesIn xs → (owned d (stateIn xs .table) ≡ shareOf (stateIn xs .range) (stateIn xs .devices) d → ⊥) → Unread 16 r
+          read-shares d n h = read-faulty (shares-faulty xs d n h)
 
           pub read-image : Sound xs → (r .refusal ≡ 0) × (r .pool ≡ poolOf (stateIn xs))
           read-image h = pooled k (marked-mark xs l m) v h

@@ -8,13 +8,13 @@ use native.Mathlib.Omega.{arith}
 use lib.ListN.{length, getD, drop}
 use borrow.Author.Tests.{le-ltb}
 use Rattle.sha1_blocks.specs.Fips180.{bytes, digest}
-use Rattle.slicing.specs.Changes.{State, fresh, Change, add, remove, resize, Outcome, change}
+use Rattle.slicing.specs.Changes.{fresh, add, remove, resize}
 use Rattle.slicing.specs.Claims.{written}
 use Rattle.slicing.specs.Devices.{device}
 use Rattle.slicing.specs.Runs.{_of_}
 use Rattle.slicing.specs.ShareRule.{shares}
 use Rattle.slicing.specs.SixSteps.{move}
-use Rattle.slicing.proofs.Cases.{places, threeDevices}
+use Rattle.slicing.proofs.Cases.{after, next, threeDevices}
 use Rattle.pools.specs.Pools.{stateOf, ValidPool}
 use Rattle.valid_pools.specs.Promises.{Shared}
 use Rattle.pools.specs.declared.Pool.{Pool}
@@ -63,15 +63,7 @@ K5 p v e f r s t k l m =
     let a = marked .K5 in
     (k .valid v ∙ rw (e, f, a), l .valid v ∙ rw (e, f, a), m .valid v ∙ rw (e, f, a))
 
--- ---- changes
-
--- the pool after changes, each with a list of 16 places, and the outcome of one more
-abbrev pub after : State → List Change → State
-after s [] = s
-after s (k ∷ ks) = after (change s (places 16) k .state) ks
-
-abbrev pub next : State → List Change → Change → Outcome
-next s ks k = change (after s ks) (places 16) k
+-- ---- changes: the pool after changes, each with a list of 16 places, and the outcome of one more (`after`, `next` of slicing proofs/Cases.antt)
 
 -- after line 4 it is 0–33 to device 1, 34–66 to 3, 67–99 to 2
 pub K6 : after (fresh 100 16) (add 1 1000 ∷ add 2 1000 ∷ add 3 1000 ∷ []) .table ≡ (34 of 1) ∷ (33 of 3) ∷ (33 of 2) ∷ []
@@ -95,10 +87,11 @@ pub K10 : (next (fresh 1 1) (add 5 1000 ∷ []) (add 6 1000) .number ≡ 0) × (
     × (next (fresh 1 1) (add 5 1000 ∷ []) (add 4 1000) .number ≡ 0) × (written (next (fresh 1 1) (add 5 1000 ∷ []) (add 4 1000)) ≡ move 0 1 5 4 ∷ [])
 K10 = marked .K10
 
--- R = 10, capacities 0.143, 0.857, then 0.030: shares 1, 9 become 2, 8, 0, and point 9 goes from device 2 to 1
+-- R = 10, capacities 0.143, 0.857, then 0.030: shares 1, 9 stay 1, 9, the new disk gets 0, and nothing moves (Wish 4)
 pub K11 : (shares 10 (device 1 143 ∷ device 2 857 ∷ []) ≡ (1 of 1) ∷ (9 of 2) ∷ [])
-    × (shares 10 (device 1 143 ∷ device 2 857 ∷ device 3 30 ∷ []) ≡ (2 of 1) ∷ (8 of 2) ∷ (0 of 3) ∷ [])
-    × (written (next (fresh 10 16) (add 1 143 ∷ add 2 857 ∷ []) (add 3 30)) ≡ move 9 1 2 1 ∷ [])
+    × (shares 10 (device 1 143 ∷ device 2 857 ∷ device 3 30 ∷ []) ≡ (1 of 1) ∷ (9 of 2) ∷ (0 of 3) ∷ [])
+    × (next (fresh 10 16) (add 1 143 ∷ add 2 857 ∷ []) (add 3 30) .number ≡ 0)
+    × (written (next (fresh 10 16) (add 1 143 ∷ add 2 857 ∷ []) (add 3 30)) ≡ [])
 K11 = marked .K11
 
 -- ---- points

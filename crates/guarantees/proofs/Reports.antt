@@ -5,10 +5,10 @@
 -- report: report-invalid (2), report-outside (2), report-absent (5), report-row (the device at a row); report-division (whole number and
 --   remainder are R × c divided by C)
 -- the claims: even-zero, even-sum, even-between
--- K5's pool: three-equal
+-- pools: three-equal (K5's), exactly-due (a remainder of 0 with a difference)
 -- gorvyts_report: told-few-places (17), told-unreadable (14, 15, 16), told-outside (2), told-absent (5), told-present, told-row (the device at a
 --   row of the image); the claims: told-zero, told-sum, told-between
-use mathlib.Core.Path.{_≡_, refl, ap, _∙_}
+use mathlib.Core.Path.{_≡_, refl, ap, _∙_, subst}
 use mathlib.Core.Bool.{true, false}
 use mathlib.Core.List.{List, _∷_, List·Memᴰ}
 use Prim.Native.Nat.{ℕ, zero, suc, _+_, _*_, _/_, _%_, _≤_, _<_}
@@ -20,9 +20,9 @@ use lib.Signed.{_<ℤ_}
 use Rattle.slicing.specs.Devices.{Device, device, capacities, present, capacityOf, Rising}
 use Rattle.slicing.specs.Reports.{reportOf, report, differences}
 use Rattle.slicing.specs.ShareRule.{shareOf}
-use Rattle.slicing.proofs.Cases.{threeDevices, report-three}
+use Rattle.slicing.proofs.Cases.{many, threeDevices, report-three, report-reverse}
 use Rattle.slicing.proofs.Devices.{rising-some, capacityOf-member}
-use Rattle.slicing.proofs.Reports.{report-zero, reports-sum, report-between}
+use Rattle.slicing.proofs.Reports.{report-only, reports-sum, report-between}
 use Rattle.slicing_core.specs.Rows.{at, deviceRows}
 use Rattle.slicing_core.proofs.DeviceRows.{position-present, capacityOf-row, ascending-rising, within-rising}
 use Rattle.slicing_core.proofs.Rows.{length-deviceRows}
@@ -34,7 +34,7 @@ use Rattle.image_numbers.specs.Format.{rangeIn, devicesIn, idsIn, capacitiesIn,
 use Rattle.image_rows.specs.Promises as Rows
 use Rattle.image_rows.specs.Promises.{ReportLeft, reportTold}
 use Rattle.demand3.specs.Points.{Listed}
-use Rattle.guarantees.proofs.Conditions.{Inside, inside-false, inside-true, unlisted-absent}
+use Rattle.guarantees.proofs.Conditions.{Inside, inside-false, inside-true, unlisted-absent, length-devices}
 use Rattle.guarantees.proofs.Exports.{Unreadable, unread, read}
 
 -- C
@@ -106,15 +106,17 @@ module _ (p : Pool) (v : ValidPool p) (i : ℕ) (l : i < p .devices) (r : Report
     mod-lt (p .range * at (p .capacities) i) (rising-some 0 (stateOf p .devices) (v .valid .rising) listed),
   )
 
-  -- 'It is 0 exactly where the remainder is 0.'
-  pub even-zero : (r .difference ≡ pos 0 → r .remainder ≡ 0) × (r .remainder ≡ 0 → r .difference ≡ pos 0)
+  -- 'a difference of 0 still means a remainder of 0, but not the reverse': below, exactly-due
+  pub even-zero : r .difference ≡ pos 0 → r .remainder ≡ 0
   unfolding stateOf
-  even-zero = let z = report-zero (p .range) (stateOf p .devices) (v .valid .rising) this listed in rw report-row (z .only, z .wherever)
+  even-zero = rw report-row (report-only (p .range) (stateOf p .devices) this)
 
-  -- 'each lies strictly between −C and C'
-  pub even-between : (negℤ (pos (sumOfCapacities p)) <ℤ r .difference) × (r .difference <ℤ pos (sumOfCapacities p))
+  -- 'each lies strictly between −C and' n × C
+  pub even-between : (negℤ (pos (sumOfCapacities p)) <ℤ r .difference) × (r .difference <ℤ pos (p .devices * sumOfCapacities p))
   unfolding stateOf
-  even-between = let b = report-between (p .range) (stateOf p .devices) (v .valid .rising) this listed in rw report-row (b .above, b .below)
+  even-between =
+      let b = report-between (p .range) (stateOf p .devices) (v .valid .rising) this listed in
+      rw report-row (b .above, subst (λ n. reportOf (p .range) (stateOf p .devices) this .difference <ℤ pos (n * sumOfCapacities p)) (length-devices p) (b .below))
 
 -- ---- all devices
 
@@ -155,6 +157,12 @@ three-equal p v e f r s t k l m =
       l .valid v ∙ rw (e, f) (ap reportAs (a .1)),
       m .valid v ∙ rw (e, f) (ap reportAs (a .2)),
     )
+
+-- ---- R = 4, a disk of 5 thousandths of a TB and five of 1: it is due 2 points exactly, and has all 4
+
+pub exactly-due : (p : Pool) → ValidPool p → stateOf p .range ≡ 4 → stateOf p .devices ≡ device 1 5 ∷ many 5 2 → (r : ReportAnswer) → Reported p 1 r
+    → r ≡ record { refusal = 0; whole = 2; remainder = 0; difference = pos 20 }
+exactly-due p v e f r k = k .valid v ∙ rw (e, f) (ap reportAs report-reverse)
 
 -- ---- gorvyts_report
 
@@ -201,15 +209,15 @@ module _ (xs : List ℕ) (i : Image xs) (j : ℕ) (l : j < devicesIn xs) (a : Li
       ∙ ap (reportTold a) (row-report (idsIn xs) (capacitiesIn xs) (devicesIn xs) (i .sound .valid .rising) j l (rangeIn xs))
 
   -- the remainder is in the second place
-  pub told-zero : (r .difference ≡ pos 0 → at (r .places) 1 ≡ 0) × (at (r .places) 1 ≡ 0 → r .difference ≡ pos 0)
-  told-zero =
-      let z = report-zero (rangeIn xs) (stateIn xs .devices) (i .sound .valid .rising) that listed-in in
-      rw told-row (z .only, z .wherever)
+  pub told-zero : r .difference ≡ pos 0 → at (r .places) 1 ≡ 0
+  told-zero = rw told-row (report-only (rangeIn xs) (stateIn xs .devices) that)
 
-  pub told-between : let C = capacities (stateIn xs .devices) in (negℤ (pos C) <ℤ r .difference) × (r .difference <ℤ pos C)
+  pub told-between : let C = capacities (stateIn xs .devices) in (negℤ (pos C) <ℤ r .difference) × (r .difference <ℤ pos (devicesIn xs * C))
+  unfolding stateIn
   told-between =
       let b = report-between (rangeIn xs) (stateIn xs .devices) (i .sound .valid .rising) that listed-in in
-      rw told-row (b .above, b .below)
+      rw told-row
+      (b .above, subst (λ n. reportOf (rangeIn xs) (stateIn xs .devices) that .difference <ℤ pos (n * capacities (stateIn xs .devices))) (length-deviceRows (idsIn xs) (capacitiesIn xs) 0 (devicesIn xs)) (b .below))
 
 pub told-sum : (xs : List ℕ) → Image xs → 1 ≤ devicesIn xs → (a : ℕ → List ℕ) (x : ℕ → ℤ) (answer : ℕ → ReportLeft)
     → ((j : ℕ) → j < devicesIn xs → (2 ≤ length (a j)) × Rows.Reported xs (at (idsIn xs) j) (a j) (x j) (answer j))

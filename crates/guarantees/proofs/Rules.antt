@@ -1,28 +1,34 @@
 -- What a reader expects of the rules, each as a theorem that stands on the definitions alone.
 --
 -- SHA-1: schedule-eighty, schedule-block, schedule-word (each word of the message schedule is the standard's), whole-blocks
--- shares: share-near (strictly within one of R × c / C)
+-- shares: share-counted (the literal rule), share-computed (as it is computed), share-near (how far from R × c / C), share-after-add, share-after-remove,
+--   share-after-growth, share-after-shrinking
 -- sizes at the limits: product-fits, sum-fits, capacity-fits, text-fits
 -- order of the checks: two-first, five-before-seven, four-before-six, eight-before-nine; largest-capacity
 -- copies: copies-distinct, copies-first, copies-prefix, copies-owner; counters-fresh
 -- images: read-image, read-written, read-written-front, image-accepted, written-read, written-read-front, images-differ
 -- texts: line-for-line, line-count, text-parts, text-printed; texts-joined, texts-printed, texts-both; refused-stays, refused-dropped,
 -- accepted-alone, same-text, same-accepted
-use mathlib.Core.Path.{_≡_}
+use mathlib.Core.Path.{_≡_, sym, _∙_}
 use mathlib.Core.List.{List, [], _∷_, _++_, List·Memᴰ}
-use Prim.Native.Nat.{ℕ, suc, _+_, _*_, _-_, _^_, _≤_, _<_, min}
+use Prim.Native.Nat.{ℕ, suc, _+_, _*_, _-_, _/_, _^_, _≤_, _<_, min}
 use lib.Bits.{bitXor}
 use lib.ListN.{length, getD, take, drop}
 use Rattle.sha1_blocks.specs.Fips180.{ROTL, schedule, pad, N}
 use Rattle.sha1_blocks.proofs.Padding as Padding
 use Rattle.sha1_blocks.proofs.Schedule as Schedule
 use Rattle.slicing.specs.Changes.{fresh, Change, add, remove, resize, change}
-use Rattle.slicing.specs.Devices.{Device, capacities, Rising}
+use Rattle.slicing.specs.Devices.{Device, capacities, insert, delete, update, Rising}
+use Rattle.slicing.specs.GreatestDivisors.{among}
+use Rattle.slicing.specs.LowerQuota.{lowerQuota}
 use Rattle.slicing.specs.Runs.{count, intervals}
-use Rattle.slicing.specs.ShareRule.{shareOf}
+use Rattle.slicing.specs.ShareRule.{shares, shareOf}
 use Rattle.slicing.proofs.Cases as Cases
 use Rattle.slicing.proofs.Cases.{after, next, full}
+use Rattle.slicing.proofs.Devices.{rising-least}
 use Rattle.slicing.proofs.Limits as Limits
+use Rattle.slicing.proofs.LowerQuota.{lowerQuota-greatestDivisors}
+use Rattle.slicing.proofs.Quotients.{share-further}
 use Rattle.slicing.proofs.ShareRule as Shares
 use Rattle.pools.specs.Pools.{stateOf, poolOf, ValidPool}
 use Rattle.pools.specs.declared.Pool.{Pool}
@@ -74,9 +80,37 @@ whole-blocks = Padding.whole-blocks
 
 -- ---- shares
 
-pub share-near : (R : ℕ) (ds : List Device) → Rising 0 ds → (e : Device) → List·Memᴰ e ds
-    → (R * e .capacity < capacities ds * shareOf R ds (e .id) + capacities ds) × (capacities ds * shareOf R ds (e .id) < R * e .capacity + capacities ds)
-share-near = Shares.shareOf-near
+module _ (R : ℕ) (ds : List Device) (r : Rising 0 ds) (e : Device) (m : List·Memᴰ e ds) where
+  -- 'A device's share is how many of its quotients are among the first R', with any number of quotients from R on formed of each device
+  pub share-counted : (n : ℕ) → R ≤ n → shareOf R ds (e .id) ≡ among n R ds e
+  share-counted n l = Shares.shareOf-share R ds r e m ∙ sym (share-further n R ds e m (rising-least 0 ds r m) l)
+
+  -- it is at least R × c / C rounded down, and less than n above R × c / C
+  pub share-near : (R * e .capacity / capacities ds ≤ shareOf R ds (e .id))
+      × (capacities ds * shareOf R ds (e .id) < R * e .capacity + length ds * capacities ds)
+  share-near = (Shares.shareOf-floor R ds r e m, Shares.shareOf-below R ds r e m)
+
+-- the rule as it is computed: each device from its lower quota on, the points left over one by one
+pub share-computed : (R : ℕ) (ds : List Device) → Rising 0 ds → 1 ≤ length ds → shares R ds ≡ lowerQuota R ds
+unfolding shares
+share-computed R ds r l = sym (lowerQuota-greatestDivisors R ds r l)
+
+-- where a disk comes or grows no other share grows; where it goes or shrinks none shrinks
+module _ (R : ℕ) (ds : List Device) (x d : ℕ) (other : x ≡ d → ⊥) where
+  pub share-after-add : (c : ℕ) → shareOf R (insert d c ds) x ≤ shareOf R ds x
+  share-after-add c = Shares.shareOf-insert R x d c ds other
+
+  pub share-after-remove : shareOf R ds x ≤ shareOf R (delete d ds) x
+  share-after-remove = Shares.shareOf-delete R x d ds other
+
+module _ (R : ℕ) (ds : List Device) (r : Rising 0 ds) (e : Device) (m : List·Memᴰ e ds) (c : ℕ) where
+  pub share-after-growth : e .capacity ≤ c
+      → (shareOf R ds (e .id) ≤ shareOf R (update (e .id) c ds) (e .id)) × ((x : ℕ) → (x ≡ e .id → ⊥) → shareOf R (update (e .id) c ds) x ≤ shareOf R ds x)
+  share-after-growth l = (Shares.shareOf-raise-own R ds r e m c l, Shares.shareOf-raise R ds r e m c l)
+
+  pub share-after-shrinking : 1 ≤ c → c ≤ e .capacity
+      → (shareOf R (update (e .id) c ds) (e .id) ≤ shareOf R ds (e .id)) × ((x : ℕ) → (x ≡ e .id → ⊥) → shareOf R ds x ≤ shareOf R (update (e .id) c ds) x)
+  share-after-shrinking k l = (Shares.shareOf-lower-own R ds r e m c k l, Shares.shareOf-lower R ds r e m c l)
 
 -- ---- sizes at the limits: R to 2^32, 256 devices, capacities to 16,000,000 (Wish 1)
 

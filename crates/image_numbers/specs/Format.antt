@@ -1,6 +1,7 @@
--- Images of pools. Renders document 01, 'Image'.
+-- Images of pools. Renders document 01, 'Image', and of document 02 the version of Wish 4.
 --
 --   mark, version          the mark RSL as a number in three bytes; the version
+--   rule                   the share rule that this version stands for
 --   imageOf s              the bytes of a state
 --   numberAt xs i k        the number in k bytes from place i on
 --   column xs k i n        the numbers in k bytes of n rows of six bytes, the first at place i
@@ -17,16 +18,22 @@ use Rattle.sha1_blocks.specs.Fips180.{bytes}
 use Rattle.slicing.specs.Changes.{State}
 use Rattle.slicing.specs.Devices.{Device}
 use Rattle.slicing.specs.Runs.{Run, _of_}
-use Rattle.slicing.specs.Validity.{Valid}
+use Rattle.slicing.specs.ShareRule.{Rule, shares}
+use Rattle.slicing.specs.Validity.{ValidWith}
 use Rattle.slicing_core.specs.Rows.{at, deviceRows, tableRows}
 
 -- 'Bytes 0 to 2 hold the mark RSL (52 53 4C hexadecimal)'
 abbrev pub mark : ℕ
 mark = 0x52534c
 
--- 'the version 1'
+-- 'Images carry version 2; version 1 gets 15.' (Wish 4)
 abbrev pub version : ℕ
-version = 1
+version = 2
+
+-- a version stands for the share rule that its tables are held against: this is the one place that says which. Version 1 stood for the rule
+-- before
+abbrev pub rule : Rule
+rule = shares
 
 -- 'The device rows begin at byte 19'
 abbrev pub headSize : ℕ
@@ -109,7 +116,7 @@ marked xs = leb headSize (length xs) && eqb (numberAt xs 0 3) mark
 -- 'The image's length is 19 + 6n + 6q.' 'Accepted are exactly the images that meet this and the rules of pool and shares.'
 pub record Sound (xs : List ℕ) : Type 0 where
   pub exact : length xs ≡ headSize + 6 * devicesIn xs + 6 * intervalsIn xs
-  pub valid : Valid (stateIn xs)
+  pub valid : ValidWith (rule (stateIn xs .range) (stateIn xs .devices)) (stateIn xs)
 
 -- what an image of a pool is: nothing of 14, 15 and 16
 pub record Image (xs : List ℕ) : Type 0 where

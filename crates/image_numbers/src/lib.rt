@@ -5,7 +5,7 @@ pub mod numbers;
 // The mark RSL, as a number in three bytes.
 pub const MARK: u64 = 0x52534c;
 
-pub const VERSION: u64 = 1;
+pub const VERSION: u64 = 2;
 
 // The bytes before the device rows.
 pub const HEAD: usize = 19;

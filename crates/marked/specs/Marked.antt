@@ -38,9 +38,10 @@ pub record Marked : Type 0 where
   -- R = 1, M = 1: a second add of equal capacity and higher id is accepted and moves nothing; with a lower id it moves point 0
   pub K10 : (next (fresh 1 1) (add 5 1000 ∷ []) (add 6 1000) .number ≡ 0) × (written (next (fresh 1 1) (add 5 1000 ∷ []) (add 6 1000)) ≡ [])
       × (next (fresh 1 1) (add 5 1000 ∷ []) (add 4 1000) .number ≡ 0) × (written (next (fresh 1 1) (add 5 1000 ∷ []) (add 4 1000)) ≡ move 0 1 5 4 ∷ [])
-  -- R = 10, capacities 0.143, 0.857, then 0.030: shares 1, 9 become 2, 8, 0, and point 9 goes from device 2 to 1
+  -- R = 10, capacities 0.143, 0.857, then 0.030: shares 1, 9 stay 1, 9, the new disk gets 0, and nothing moves (Wish 4)
   pub K11 : (shares 10 (device 1 143 ∷ device 2 857 ∷ []) ≡ (1 of 1) ∷ (9 of 2) ∷ [])
-      × (shares 10 (device 1 143 ∷ device 2 857 ∷ device 3 30 ∷ []) ≡ (2 of 1) ∷ (8 of 2) ∷ (0 of 3) ∷ [])
-      × (written (next (fresh 10 16) (add 1 143 ∷ add 2 857 ∷ []) (add 3 30)) ≡ move 9 1 2 1 ∷ [])
+      × (shares 10 (device 1 143 ∷ device 2 857 ∷ device 3 30 ∷ []) ≡ (1 of 1) ∷ (9 of 2) ∷ (0 of 3) ∷ [])
+      × (next (fresh 10 16) (add 1 143 ∷ add 2 857 ∷ []) (add 3 30) .number ≡ 0)
+      × (written (next (fresh 10 16) (add 1 143 ∷ add 2 857 ∷ []) (add 3 30)) ≡ [])
   -- R = 100: h = 2,147,483,648 is point 50, h = 4,294,967,295 is 99
   pub K12 : (scaled 2147483648 100 ≡ 50) × (scaled 4294967295 100 ≡ 99)

@@ -16,6 +16,7 @@ use borrow.Author.Tests.{lt-ltb, le-ltb}
 use Rattle.slicing.specs.Changes.{State, Outcome, refused, accepted, settle}
 use Rattle.slicing.specs.Claims.{written}
 use Rattle.slicing.specs.Runs.{Run, relabel}
+use Rattle.slicing.specs.ShareRule.{shares}
 use Rattle.slicing.specs.SixSteps.{Turn, newTable, Move, movesFrom, moves, points}
 use Rattle.slicing.specs.Validity.{Valid}
 use Rattle.slicing.proofs.Changes.{valid-settled}
@@ -102,11 +103,11 @@ module _ {o e : Opened} {rs : Rows} {work : List ℕ} (m : Merged o e rs work) {
       ap points (named-moves m d) ∙ points-rename (at (rs .names)) (movesFrom 0 (turnsOf turned 0 (r .turns)))
       ∙ ap (λ t. points (movesFrom 0 t)) (d .turned) ∙ sym (d .moved)
 
-  pub settled-eight : o .limit < r .intervals → (lent : List Move) → settle (stateBy o rs work) lent (devicesIn e) ≡ refused (stateBy o rs work) lent 8
+  pub settled-eight : o .limit < r .intervals → (lent : List Move) → settle shares (stateBy o rs work) lent (devicesIn e) ≡ refused (stateBy o rs work) lent 8
   settled-eight l lent = rw (lt-ltb (o .limit) (length (newTable (turnsHere o e rs work))) (omega (arith, count-table)))
 
   module _ (fits : r .intervals ≤ o .limit) where
-    pub settled-nine : (lent : List Move) → length lent < r .count → settle (stateBy o rs work) lent (devicesIn e) ≡ refused (stateBy o rs work) lent 9
+    pub settled-nine : (lent : List Move) → length lent < r .count → settle shares (stateBy o rs work) lent (devicesIn e) ≡ refused (stateBy o rs work) lent 9
     settled-nine lent l =
         rw (
           le-ltb (o .limit) (length (newTable (turnsHere o e rs work))) (omega (arith, count-table)),
@@ -114,7 +115,7 @@ module _ {o e : Opened} {rs : Rows} {work : List ℕ} (m : Merged o e rs work) {
         )
 
     pub settled-done : (lent : List Move) → r .count ≤ length lent
-        → settle (stateBy o rs work) lent (devicesIn e)
+        → settle shares (stateBy o rs work) lent (devicesIn e)
         ≡ accepted (stateBy o rs work) lent (devicesIn e) (newTable (turnsHere o e rs work)) (moves (turnsHere o e rs work))
     settled-done lent l =
         rw (
@@ -144,7 +145,7 @@ module _ {o e : Opened} {rs : Rows} {work : List ℕ} (m : Merged o e rs work) {
 
       pub planned-settled : (places : ℕ) (p : Plan) → r .count ≤ places → p .refusal ≡ 0 → p .moved ≡ r .moved → p .count ≡ r .count → p .turns ≡ r .turns
           → p .names ≡ rs .names → p .after ≡ openedWith e (r .intervals)
-          → Planned (λ lent. settle (stateBy o rs work) lent (devicesIn e)) places o p turned last
+          → Planned (λ lent. settle shares (stateBy o rs work) lent (devicesIn e)) places o p turned last
       planned-settled places p all er em ec et en ea = record {
         number = λ lent l. er ∙ sym (ap (λ k. k .number) (done lent l));
         moved = λ lent l. em ∙ sym points-moves ∙ sym (ap (λ k. k .moved) (done lent l));
@@ -165,6 +166,6 @@ module _ {o e : Opened} {rs : Rows} {work : List ℕ} (m : Merged o e rs work) {
           ts : List (Run Turn)
           ts = turnsHere o e rs work
 
-          done : (lent : List Move) → length lent ≡ places → settle (stateBy o rs work) lent (devicesIn e)
+          done : (lent : List Move) → length lent ≡ places → settle shares (stateBy o rs work) lent (devicesIn e)
               ≡ accepted (stateBy o rs work) lent (devicesIn e) (newTable (turnsHere o e rs work)) (moves (turnsHere o e rs work))
           done lent l = settled-done lent (omega arith)

@@ -6,12 +6,12 @@
 --   extended-more      the words W_16 to W_(15 + m) formed in place, and n further ones
 --   extended-schedule  in an array of eighty whose first sixteen are the block's, they are the words of the schedule
 use mathlib.Core.Path.{_≡_, refl, sym, _∙_}
-use mathlib.Core.List.{List, [], _∷_, _++_}
+use mathlib.Core.List.{List, []}
 use Prim.Native.Nat.{ℕ, zero, suc, _+_, _-_, _≤_, _<_}
 use native.Mathlib.Nat.{add-zero, add-suc, add-assoc}
 use native.Mathlib.Decide.{ℕ-discrete}
 use native.Mathlib.Omega.{arith}
-use lib.ListN.{length, getD, take, set, length-set, length-append, List·getD-append}
+use lib.ListN.{length, getD, take, length-set, length-append, List·getD-append}
 use lib.Seq.{getD-at, getD-take, take-all, take-suc-set}
 use Rattle.sha1_blocks.specs.Fips180.{next, schedule}
 use Rattle.sha1_blocks.specs.InPlace.{extended}

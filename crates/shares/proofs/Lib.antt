@@ -1,2 +1,5 @@
 pub mod DeviceCapacities
-pub mod LargestRemainder
+pub mod DeviceDues
+pub mod GreatestDivisors
+pub mod Nodes
+pub mod Matches

@@ -1,1 +1,3 @@
-pub mod LargestRemainder
+pub mod Dues
+pub mod GreatestDivisors
+pub mod Tournament

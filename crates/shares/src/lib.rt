@@ -1,7 +1,10 @@
 // The share rule in code: what each device of a pool is to have. Internal: `opened` and `valid_pools` stand on it.
-// One module a rule, each promising its own rule; `shares` is the rule in force.
+// `shares` names the rule in force, which is a module of its own; another rule is another module or, as that
+// before this one is, a crate.
 pub mod capacities;
-mod largest_remainder;
+pub mod dues;
+mod greatest_divisors;
+mod tournament;
 
 use slicing::MAX_DEVICES;
 ghost use mathlib.Core.Path.{_≡_};
@@ -23,5 +26,5 @@ pub fn shares(
     ensures shares { λ r. ⌜ rows r (now (ids .entry)) 0 n ≡ Rule·shares range (deviceRows (now (ids .entry)) (now (capacities .entry)) 0 n) ⌝ }
     ensures { λ r. ⌜ length r ≡ 256 ⌝ }
 {
-    largest_remainder::shares(range, ids, capacities, n)
+    greatest_divisors::shares(range, ids, capacities, n)
 }

@@ -1,18 +1,20 @@
 -- The list of devices under add, remove and resize.
 --
 -- Rising: rising-count, rising-distinct, rising-weaken, rising-capacities; of a device of the list: rising-some (there is some capacity),
---   rising-most (its own is within the limit)
+--   rising-least and rising-most (its own is within the limits)
+-- members: member-count, member-first (the first of distinct devices has another id than those after it), member-length
 -- present: present-count
 -- capacityOf: capacityOf-member (a present id with its capacity is a device of the list)
--- insert: insert-rising, insert-length; delete: delete-rising, delete-length; update: update-ids, update-length, update-rising
-use mathlib.Core.Path.{_≡_, refl, sym, ap, _∙_}
+-- insert: insert-rising, insert-length; delete: delete-rising, delete-length; update: update-ids, update-length, update-rising,
+--   update-self (with the capacity that it has)
+use mathlib.Core.Path.{_≡_, refl, sym, ap, ap₂, _∙_}
 use mathlib.Core.Bool.{Bool, true, false, cond, _||_, false≢true}
 use mathlib.Core.List.{List, [], _∷_, List·Memᴰ, List·Memᴰ·head, List·Memᴰ·tail}
 use Prim.Native.Nat.{ℕ, suc, _+_, _≤_, _<_}
 use native.Mathlib.Omega.{arith}
 use lib.Dec.{eqb, ltb}
 use lib.ListN.{length}
-use borrow.Author.Tests.{ltb-true, ltb-false, lt-ltb, eqb-true, eqb-false, ne-eqb}
+use borrow.Author.Tests.{ltb-true, ltb-false, lt-ltb, eqb-true, eqb-false, eq-eqb, ne-eqb}
 use Rattle.slicing.specs.Devices.{Device, device, ids, capacities, present, capacityOf, insert, delete, update, Within, Rising}
 use Rattle.slicing.specs.Limits.{maxCapacity}
 use Rattle.slicing.specs.Runs.{one, count}
@@ -43,9 +45,25 @@ rising-capacities a (e ∷ ds) h = omega (arith, h .0 .some, rising-capacities (
 pub rising-some : {e : Device} (a : ℕ) (ds : List Device) → Rising a ds → List·Memᴰ e ds → 1 ≤ capacities ds
 rising-some a (d ∷ ds) h m = omega (arith, h .0 .some)
 
+pub rising-least : {e : Device} (a : ℕ) (ds : List Device) → Rising a ds → List·Memᴰ e ds → 1 ≤ e .capacity
+rising-least a (d ∷ ds) h (List·Memᴰ·head p) = rw p (h .0 .some)
+rising-least a (d ∷ ds) h (List·Memᴰ·tail m) = rising-least (d .id) ds (h .1) m
+
 pub rising-most : {e : Device} (a : ℕ) (ds : List Device) → Rising a ds → List·Memᴰ e ds → e .capacity ≤ maxCapacity
 rising-most a (d ∷ ds) h (List·Memᴰ·head p) = rw p (h .0 .most)
 rising-most a (d ∷ ds) h (List·Memᴰ·tail m) = rising-most (d .id) ds (h .1) m
+
+pub member-count : {e : Device} {ds : List Device} → List·Memᴰ e ds → 1 ≤ count (e .id) (ids ds)
+member-count {e} (List·Memᴰ·head {x = f} p) = omega (arith, ap one (eq-eqb (e .id) (f .id) (ap (λ g. g .id) p)))
+member-count (List·Memᴰ·tail m) = omega (arith, member-count m)
+
+pub member-first : (f : Device) (ds : List Device) → Distinct (ids (f ∷ ds)) → (e : Device) → List·Memᴰ e ds → e .id ≡ f .id → ⊥
+member-first f ds u e m w =
+    omega (arith, u (f .id), ap one (eq-eqb (f .id) (f .id) refl), member-count m, ap (λ d. count d (ids ds)) w)
+
+pub member-length : {e : Device} {ds : List Device} → List·Memᴰ e ds → 1 ≤ length ds
+member-length (List·Memᴰ·head p) = omega arith
+member-length (List·Memᴰ·tail m) = omega arith
 
 pub present-count : (d : ℕ) (ds : List Device) → present d ds ≡ ltb 0 (count d (ids ds))
 present-count d [] = refl
@@ -121,3 +139,21 @@ update-rising a d c (e ∷ ds) h l m = (go (eqb d (e .id)), update-rising (e .id
     go : (t : Bool) → Within a (device (e .id) (cond t c (e .capacity)))
     go true = record { above = h .0 .above; known = h .0 .known; some = l; most = m }
     go false = record { above = h .0 .above; known = h .0 .known; some = h .0 .some; most = h .0 .most }
+
+update-absent : (d c : ℕ) (ds : List Device) → count d (ids ds) ≡ 0 → update d c ds ≡ ds
+update-absent d c [] h = refl
+update-absent d c (e ∷ ds) h = go (eqb d (e .id)) h (update-absent d c ds (omega arith))
+  where
+    go : (t : Bool) → one t + count d (ids ds) ≡ 0 → update d c ds ≡ ds → device (e .id) (cond t c (e .capacity)) ∷ update d c ds ≡ e ∷ ds
+    go true k ih = absurd (omega arith)
+    go false k ih = ap (λ l. e ∷ l) ih
+
+pub update-self : {e : Device} (ds : List Device) → Distinct (ids ds) → List·Memᴰ e ds → update (e .id) (e .capacity) ds ≡ ds
+update-self (f ∷ ds) u (List·Memᴰ·head p) =
+    let t = eq-eqb (f .id) (f .id) refl in
+    rw p
+    (ap₂ (λ b l. device (f .id) (cond b (f .capacity) (f .capacity)) ∷ l) t
+    (update-absent (f .id) (f .capacity) ds (omega (arith, u (f .id), ap one t))))
+update-self {e} (f ∷ ds) u (List·Memᴰ·tail m) =
+    ap₂ (λ b l. device (f .id) (cond b (e .capacity) (f .capacity)) ∷ l) (ne-eqb (e .id) (f .id) (member-first f ds u e m))
+    (update-self ds (λ d. omega (arith, u d)) m)

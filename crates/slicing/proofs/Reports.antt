@@ -1,26 +1,25 @@
--- How even a pool is: document 02, Wish 2.
+-- How even a pool is: document 02, Wishes 2 and 4.
 --
 -- of every share rule: report-only (a difference is 0 only where the remainder is 0), reports-sum (the differences of all devices add up to 0)
--- of the rule in force, by shareOf-whole and shareOf-near of proofs/ShareRule.antt: report-zero (a difference is 0 exactly where the
---   remainder is 0), report-between (each lies strictly between −C and C), report-sizes (the two numbers whose difference it is are far
---   inside 64 bits with a sign)
+-- of the rule in force, by shareOf-above and shareOf-below of proofs/ShareRule.antt: report-between (each lies strictly between −C and n × C),
+--   report-sizes (the two numbers whose difference it is are far inside 64 bits with a sign)
 use mathlib.Core.Path.{_≡_, sym, ap, _∙_}
 use mathlib.Core.List.{List, [], _∷_, List·Memᴰ}
 use Prim.Native.Nat.{ℕ, _+_, _*_, _%_, _≤_}
-use native.Mathlib.Nat.{div-add-mod', mul-mod-left}
+use native.Mathlib.Nat.{mul-mod-left, mul-le-mul}
 use native.Mathlib.Omega.{arith}
 use lib.IntN.{pos, _+ℤ_, _-ℤ_}
 use lib.ListN.{length}
 use Rattle.slicing.specs.Devices.{Device, ids, capacities, Rising}
 use Rattle.slicing.specs.Limits.{maxRange, maxDevices}
-use Rattle.slicing.specs.Reports.{difference, reportOf, ZeroWith, differences, Between}
+use Rattle.slicing.specs.Reports.{difference, reportOf, differences, Between}
 use Rattle.slicing.specs.ShareRule.{shares, shareOf}
 use Rattle.slicing.proofs.Counting.{sumOf}
 use Rattle.slicing.proofs.Devices.{rising-distinct, rising-most}
 use Rattle.slicing.proofs.Differences.{minus-same, minus-zero, minus-plus, minus-above, minus-below}
 use Rattle.slicing.proofs.Limits.{product-size, sum-size}
 use Rattle.slicing.proofs.Runs.{sum-owned}
-use Rattle.slicing.proofs.ShareRule.{total-shares, shareOf-absent, shareOf-near, shareOf-whole}
+use Rattle.slicing.proofs.ShareRule.{total-shares, shareOf-absent, shareOf-above, shareOf-below}
 
 -- ---- of every share rule
 
@@ -53,24 +52,14 @@ reports-sum R ds h l =
 -- ---- of the rule in force
 
 module _ (R : ℕ) (ds : List Device) (h : Rising 0 ds) (e : Device) (m : List·Memᴰ e ds) where
-  pub report-zero : ZeroWith (reportOf R ds e .remainder) (reportOf R ds e .difference)
-  report-zero = record {
-    only = report-only R ds e;
-    wherever = λ z.
-        minus-same (shareOf R ds (e .id) * capacities ds) (R * e .capacity)
-        (ap (λ x. x * capacities ds) (shareOf-whole R ds h e m z) ∙ omega (arith, div-add-mod' (R * e .capacity) (capacities ds), z));
+  pub report-between : Between (capacities ds) (length ds) (reportOf R ds e .difference)
+  report-between = record {
+    above = minus-above (shareOf R ds (e .id) * capacities ds) (R * e .capacity) (capacities ds) (omega (arith, shareOf-above R ds h e m));
+    below = minus-below (shareOf R ds (e .id) * capacities ds) (R * e .capacity) _ (omega (arith, shareOf-below R ds h e m));
   }
 
-  pub report-between : Between (capacities ds) (reportOf R ds e .difference)
-  report-between =
-      let near = shareOf-near R ds h e m in
-      record {
-        above = minus-above (shareOf R ds (e .id) * capacities ds) (R * e .capacity) (capacities ds) (omega (arith, near .0));
-        below = minus-below (shareOf R ds (e .id) * capacities ds) (R * e .capacity) _ (omega (arith, near .1));
-      }
-
   pub report-sizes : R ≤ maxRange → length ds ≤ maxDevices
-      → (R * e .capacity ≤ 68719476736000000) × (shareOf R ds (e .id) * capacities ds ≤ 68719476736000000 + 4096000000)
+      → (R * e .capacity ≤ 68719476736000000) × (shareOf R ds (e .id) * capacities ds ≤ 68719476736000000 + 256 * 4096000000)
   report-sizes l k =
       let due = product-size l (rising-most 0 ds h m) in
-      (due, omega (arith, due, sum-size ds h k, shareOf-near R ds h e m .1))
+      (due, omega (arith, due, mul-le-mul k (sum-size ds h k), shareOf-below R ds h e m))

@@ -4,6 +4,8 @@ pub mod Runs
 pub mod Devices
 pub mod Dues
 pub mod LargestRemainder
+pub mod GreatestDivisors
+pub mod LowerQuota
 pub mod ShareRule
 pub mod Reports
 pub mod SixSteps
@@ -11,3 +13,4 @@ pub mod Changes
 pub mod Validity
 pub mod Ledger
 pub mod Claims
+pub mod Directions

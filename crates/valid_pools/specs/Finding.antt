@@ -48,7 +48,7 @@ pub data FoundOf (p : Pool) (id : ℕ) (r : Found) : Type 0 where
 
 pub record Measured (r : Found) : Type 0 where
   pub due : r .range * r .capacity ≤ 68719476736000000
-  pub held : r .points * r .sum ≤ 68719476736000000 + 4096000000
+  pub held : r .points * r .sum ≤ 68719476736000000 + 256 * 4096000000
   pub some : r .refusal ≤ 0 → 1 ≤ r .sum
 
 abbrev pub reportFrom : Found → ReportAnswer

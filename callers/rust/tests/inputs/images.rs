@@ -29,7 +29,7 @@ pub fn damaged(random: &mut Random, pool: &Pool) -> Vec<u8> {
             bytes.extend(random.bytes(count));
         }
         6 => {
-            bytes[3..5].copy_from_slice(&random.pick(&[[0, 0], [0, 2], [1, 0], [1, 1], [255, 255]]));
+            bytes[3..5].copy_from_slice(&random.pick(&[[0, 0], [0, 1], [0, 3], [1, 0], [2, 1], [255, 255]]));
         }
         7 => {
             let length = random.index(100);
@@ -38,7 +38,7 @@ pub fn damaged(random: &mut Random, pool: &Pool) -> Vec<u8> {
         8 => {
             let length = 5 + random.index(100);
             bytes = random.bytes(length);
-            bytes[..5].copy_from_slice(b"RSL\0\x01");
+            bytes[..5].copy_from_slice(b"RSL\0\x02");
         }
         9 => {
             // Counts that do not go with the length, or that trade devices for intervals.

@@ -160,7 +160,7 @@ pub fn composed(random: &mut Random, count: usize) -> Pool {
         by_id.insert(random.between(1, id_most), sizes.capacity(random));
     }
     let devices: Vec<Device> = by_id.into_iter().map(|(id, capacity)| Device { id, capacity }).collect();
-    let table = pieces(random, range, &devices);
+    let table = pieces(random, &devices, &shares(range, &devices));
     let intervals = table.len() as u64;
     let limit = match random.below(3) {
         0 => intervals.max(1),
@@ -178,39 +178,65 @@ pub fn alternating(intervals: u64) -> Pool {
 }
 
 /// A pool of 4,096 intervals and an add that takes from each of them: a device's short intervals come first, the
-/// long rest of its share last. As the large devices are equal, those of the least capacity may all gain a point;
-/// then there are more moves than intervals.
+/// long rest of its share last. So it has as many moves as intervals, and no change has more: what takes from several
+/// devices gives to one, and what gives to several takes from one, which owns at most every second interval.
 pub fn swept(random: &mut Random) -> (Pool, Change) {
     let range = random.between(200_000, 400_000);
     let capacity = random.between(2_000, 4_000);
-    let devices: Vec<Device> = (1..=240)
-        .map(|i| Device { id: 200 * i + random.below(200), capacity: if i % 6 == 0 { 1 } else { capacity } })
-        .collect();
-    let share_of: BTreeMap<u64, u64> =
+    let devices: Vec<Device> =
+        (1..=240).map(|i| Device { id: 200 * i + random.below(200), capacity }).collect();
+    let mut left: BTreeMap<u64, u64> =
         devices.iter().map(|device| device.id).zip(shares(range, &devices)).collect();
-    let mut large: Vec<u64> = share_of.keys().copied().filter(|id| share_of[id] > 10).collect();
-    let small: Vec<u64> = share_of.keys().copied().filter(|id| (1..=10).contains(&share_of[id])).collect();
-    random.shuffle(&mut large);
-    let short = LIMIT_MOST as usize - large.len() - small.len();
-    let mut left = share_of.clone();
+    let mut ids: Vec<u64> = left.keys().copied().collect();
+    random.shuffle(&mut ids);
     let mut pieces: Vec<(u64, u64)> = Vec::new();
-    for &owner in large.iter().cycle().take(short) {
+    for &owner in ids.iter().cycle().take(LIMIT_MOST as usize - ids.len()) {
         let length = random.between(1, 8);
         pieces.push((owner, length));
         *left.get_mut(&owner).unwrap() -= length;
     }
     // After a piece of another device, so that no two are joined.
-    let next = pieces.len() % large.len();
-    large.rotate_left(next);
-    pieces.extend(large.iter().chain(&small).map(|&owner| (owner, left[&owner])));
+    let next = pieces.len() % ids.len();
+    ids.rotate_left(next);
+    pieces.extend(ids.iter().map(|&owner| (owner, left[&owner])));
     let sum: u64 = devices.iter().map(|device| device.capacity).sum();
     let id = random.pick(&[7, 60_000]);
     let pool = Pool { range, limit: LIMIT_MOST, devices, table: in_a_row(pieces) };
     (pool, Change::Add(id, sum * random.between(30, 40) / 100))
 }
 
-/// The shares in pieces of any length and order, at most 4,096 of them.
-fn pieces(random: &mut Random, range: u64, devices: &[Device]) -> Vec<Interval> {
+/// A pool, and what it is with a table of the shares of before Wish 4; these are others.
+pub fn by_both_rules(random: &mut Random) -> (Pool, Pool) {
+    loop {
+        let count = random.pick(&[2, 3, 4, 6, 12, 60, 256]);
+        let pool = Pool { limit: LIMIT_MOST, ..composed(random, count) };
+        let before = largest_remainder(pool.range, &pool.devices);
+        if before != shares(pool.range, &pool.devices) {
+            let table = pieces(random, &pool.devices, &before);
+            return (pool.clone(), Pool { table, ..pool });
+        }
+    }
+}
+
+/// The share rule of document 01, which Wish 4 replaced: R × c / C rounded down, and the points left over one each to
+/// the devices with the largest R × c mod C, equal ones to the lower id.
+fn largest_remainder(range: u64, devices: &[Device]) -> Vec<u64> {
+    let sum: u64 = devices.iter().map(|d| d.capacity).sum();
+    let mut shares: Vec<u64> = devices.iter().map(|d| range * d.capacity / sum).collect();
+    let left_over = range - shares.iter().sum::<u64>();
+    let mut order: Vec<usize> = (0..devices.len()).collect();
+    order.sort_by_key(|&i| {
+        let remainder = range * devices[i].capacity % sum;
+        (std::cmp::Reverse(remainder), devices[i].id)
+    });
+    for &i in order.iter().take(left_over as usize) {
+        shares[i] += 1;
+    }
+    shares
+}
+
+/// Shares of the devices in pieces of any length and order, at most 4,096 of them.
+fn pieces(random: &mut Random, devices: &[Device], shares: &[u64]) -> Vec<Interval> {
     if devices.is_empty() {
         return Vec::new();
     }
@@ -218,7 +244,7 @@ fn pieces(random: &mut Random, range: u64, devices: &[Device]) -> Vec<Interval> 
     let each = random.pick(&[1, 2, most / 3 + 1, most]).min(most);
     let single_points = random.one_in(3);
     let mut pieces = Vec::new();
-    for (device, share) in devices.iter().zip(shares(range, devices)) {
+    for (device, &share) in devices.iter().zip(shares) {
         let mut left = share;
         for _ in 1..each {
             let length = if single_points { 1 } else { random.between(1, share / each + 1) };

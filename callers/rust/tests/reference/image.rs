@@ -1,4 +1,4 @@
-//! The bytes of a pool.
+//! The bytes of a pool, in version 2, which Wish 4 brought.
 
 use std::collections::BTreeMap;
 
@@ -7,7 +7,7 @@ use super::pool::{
 };
 
 pub const MARK: &[u8] = b"RSL";
-pub const VERSION: u64 = 1;
+pub const VERSION: u64 = 2;
 pub const HEAD: usize = 19;
 
 /// The image of a pool. Values past the width of their place lose their highest bytes, which no valid pool has.

@@ -1,4 +1,5 @@
-//! Document 01 in plain Rust, written from its text alone: what the library's calls must answer.
+//! Document 01 in plain Rust, with Wishes 1, 2 and 4 of document 02, written from their text alone: what the library's
+//! calls must answer.
 //!
 //! | Module | Sections of document 01 |
 //! |---|---|

@@ -1,4 +1,4 @@
-//! Pools, shares and the six steps of a change.
+//! Pools, shares and the six steps of a change; the share rule is that of Wish 4.
 
 use std::collections::BTreeMap;
 
@@ -56,20 +56,35 @@ pub struct Report {
     pub difference: i64,
 }
 
-/// The share of each device, in the order of the devices.
+/// The share of each device, in the order of the devices: how many of its quotients c / 1, c / 2, c / 3 .. are among
+/// the first R of all quotients.
+///
+/// Those that are C / R or more are, of each device, the first R × c / C rounded down. They are at most R and every
+/// other is smaller, so that all of them are among the first R. The others are found one by one.
 pub fn shares(range: u64, devices: &[Device]) -> Vec<u64> {
+    if devices.is_empty() {
+        return Vec::new();
+    }
     let sum: u64 = devices.iter().map(|d| d.capacity).sum();
     let mut shares: Vec<u64> = devices.iter().map(|d| range * d.capacity / sum).collect();
-    let left_over = range - shares.iter().sum::<u64>();
-    let mut order: Vec<usize> = (0..devices.len()).collect();
-    order.sort_by_key(|&i| {
-        let remainder = range * devices[i].capacity % sum;
-        (std::cmp::Reverse(remainder), devices[i].id)
-    });
-    for &i in order.iter().take(left_over as usize) {
-        shares[i] += 1;
+    let found: u64 = shares.iter().sum();
+    for _ in found..range {
+        let mut next = 0;
+        for i in 1..devices.len() {
+            if precedes(devices[i], shares[i] + 1, devices[next], shares[next] + 1) {
+                next = i;
+            }
+        }
+        shares[next] += 1;
     }
     shares
+}
+
+/// Whether the quotient of one device's capacity by i stands before that of another's by j: the larger one, and of
+/// equal ones that of the lower id.
+fn precedes(one: Device, i: u64, other: Device, j: u64) -> bool {
+    let (crosswise, counterpart) = (one.capacity * j, other.capacity * i);
+    crosswise > counterpart || (crosswise == counterpart && one.id < other.id)
 }
 
 impl Pool {

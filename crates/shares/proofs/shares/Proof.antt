@@ -1,4 +1,4 @@
--- `shares::shares` meets its contract: the rule in force is largest remainder.
+-- `shares::shares` meets its contract: the rule in force is greatest divisors.
 use borrow.Author.Needs.{needs}
 use Rattle.slicing.specs.ShareRule.{shares}
 use Rattle.shares.proofs.shares.Statement.{statement}

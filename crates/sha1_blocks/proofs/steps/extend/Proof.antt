@@ -2,8 +2,7 @@
 use mathlib.Core.Path.{_≡_, _∙_}
 use Prim.Native.Nat.{suc, _+_, _-_, _≤_}
 use native.Mathlib.Omega.{arith}
-use lib.ListN.{length, set, length-set}
-use borrow.Author.Needs.{needs}
+use lib.ListN.{length, length-set}
 use Rattle.sha1_blocks.specs.InPlace.{extended}
 use Rattle.sha1_blocks.proofs.steps.extend.Statement.{statement}
 use Rattle.sha1_blocks.proofs.steps.extend.Tie as tie

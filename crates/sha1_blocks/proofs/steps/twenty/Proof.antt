@@ -1,5 +1,5 @@
 -- `sha1_blocks::steps::twenty` meets its contract. The loop's invariant: `v` are the variables after the rounds from `first` to t - 1.
-use mathlib.Core.Path.{_≡_, _∙_}
+use mathlib.Core.Path.{_≡_}
 use Prim.Native.Nat.{suc, _+_, _-_, _≤_}
 use native.Mathlib.Omega.{arith}
 use borrow.Author.Needs.{needs}

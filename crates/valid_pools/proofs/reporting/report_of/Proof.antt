@@ -31,7 +31,7 @@ passed c = c .before .before .before .before
 
 -- what a report is made of: the products, and so what the division gives
 sizes : (c : tie.Else1) → let d = c .before .before .args .device in let due : ℕ = d .range * d .capacity in
-    (due ≤ 68719476736000000) × (d .points * d .sum ≤ 68719476736000000 + 4096000000) × (due / d .sum * d .sum ≤ due) × (due % d .sum ≤ due)
+    (due ≤ 68719476736000000) × (d .points * d .sum ≤ 68719476736000000 + 256 * 4096000000) × (due / d .sum * d .sum ≤ due) × (due % d .sum ≤ due)
 sizes c =
     let d = c .before .before .args .device in
     let due : ℕ = d .range * d .capacity in
