@@ -34,8 +34,8 @@ def shares_of(size, devices):
     return due
 
 
-def sound(b, rule=shares_of):
-    """Whether bytes with the right mark and version are an image, with shares by this rule."""
+def sound(b):
+    """Whether bytes with the right mark and version are an image."""
     n, q = number(b[15:17]), number(b[17:19])
     if len(b) != 19 + 6 * n + 6 * q:
         return False
@@ -53,7 +53,7 @@ def sound(b, rule=shares_of):
         return False
     if any(a == b for a, b in zip(owners, owners[1:])) or not set(owners) <= set(ids):
         return False
-    due = rule(pool.size, pool.devices)
+    due = shares_of(pool.size, pool.devices)
     return all(pool.share(d) == due[d] for d in ids)
 
 

@@ -1,9 +1,9 @@
 """The test vectors: those of a folder (calls.in, calls.out, histories/), and after them cases of our own in the same form.
 
 Our own are crates/test_calls/own.in and own.out, and crates/test_histories/data/own/: what the vectors of before a wish had and those
-of the wish lack, with the answers of the rules in force, calls at the limits, and conversions that move points. Pools of before Wish 4
-have version 2, and by the six steps the shares in force; bytes to read keep their table, and the last lines of own.in their version 1.
-callers/run holds them to a reference.
+of the wish lack, with the answers of the rules in force, and calls at the limits. Pools of before Wish 4 have version 2, and by the six
+steps the shares in force; bytes to read keep their table, and the last lines of own.in their version 1. callers/run holds them to a
+reference.
 """
 from pathlib import Path
 

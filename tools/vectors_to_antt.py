@@ -3,9 +3,9 @@
 
 usage: tools/vectors_to_antt.py VECTORS > crates/slicing/proofs/Vectors.antt
 
-Each add, remove and resize becomes a case with its whole answer, and so does each report, and each convert that is not refused for its
-bytes or its buffer (14 to 17); beside them stand the shares of a largest pool; each history of at most 60 lines becomes a list of its
-changes with the three numbers printed for each and the table at the end. Lines that are refused for their text (1 and 3) are left out.
+Each add, remove and resize becomes a case with its whole answer, and so does each report; beside them stand the shares of a largest pool; each history of at most 60 lines becomes a
+list of its changes with the three numbers printed for each and the table at the end. Lines that are refused for their text (1 and 3)
+are left out.
 """
 import re
 import sys
@@ -62,19 +62,6 @@ def calls(vectors):
         )
 
 
-def conversions(vectors):
-    for place, (words, answer) in enumerate(vectors.calls("convert"), 1):
-        refusal, length, moved, count, buffer, *rows = answer
-        if refusal not in ("14", "15", "16", "17"):
-            before = pool(words[1])
-            after = pool(buffer[: 2 * int(length)]) if refusal == "0" else before
-            yield (
-                f"-- {place}",
-                f"carried {state(before)} {words[3]}",
-                f"seen {refusal} {moved} {count} ({moves(list(map(int, rows)))})\n    {state(after)}",
-            )
-
-
 def signed(text):
     x = int(text)
     return f"(pos {x})" if x >= 0 else f"(negsuc {-x - 1})"
@@ -112,27 +99,23 @@ def history(path):
 HEAD = """-- The definitions against the outside: changes made by a reference program that was written from the documents alone, computed
 -- here and compared. Written by tools/vectors_to_antt.py.
 --
---   direct-calls        the adds, removes and resizes of calls.in and own.in, with the whole answer
---   direct-reports      their reports, with the whole answer
---   direct-conversions  their conversions, with the whole answer, of the pools that the images of version 1 give
---   history-NAME        the changes of the history NAME.in, with what is printed of each and the table at the end
---   largest-shares      the shares of 256 devices and the largest range
+--   direct-calls    the adds, removes and resizes of calls.in and own.in, with the whole answer
+--   direct-reports  their reports, with the whole answer
+--   history-NAME    the changes of the history NAME.in, with what is printed of each and the table at the end
+--   largest-shares  the shares of 256 devices and the largest range
 -- All are of the rule in force, `shares`, and computed with its executable form (proofs/Computing.antt).
-use mathlib.Core.Path.{_≡_, refl, ap, fun-ext}
+use mathlib.Core.Path.{_≡_, refl, ap}
 use mathlib.Core.List.{List, [], _∷_}
 use Prim.Native.Nat.{ℕ}
 use lib.IntN.{ℤ, pos, negsuc}
 use lib.ListN.{replicate}
 use Rattle·slicing·specs.specs.Changes.{State, fresh, Change, add, remove, resize, Outcome, changeBy}
 use Rattle·slicing·specs.specs.Claims.{written}
-use Rattle·slicing·specs.specs.Conversions.{convertBy, convert}
 use Rattle·slicing·specs.specs.Devices.{Device, device}
-use Rattle·slicing·specs.specs.LargestRemainder.{largestRemainder}
 use Rattle·slicing·specs.specs.Reports.{Report, reportBy}
 use Rattle·slicing·specs.specs.Runs.{Run, _of_}
 use Rattle·slicing·specs.specs.ShareRule.{Rule, shares}
 use Rattle·slicing·specs.specs.SixSteps.{turns, Move, move}
-use Rattle·slicing·proofs.proofs.Cases.{convert-computed}
 use Rattle·slicing·proofs.proofs.Computing.{computed, shares-computed}
 
 -- the refusal number, the moved points, the number of moves, the moves, the pool afterwards
@@ -179,21 +162,6 @@ reports-computed qs = ap (λ rule. reportsBy rule qs) shares-computed
 -- the refusal number, the whole number, the remainder, the difference
 told : ℕ → ℕ → ℕ → ℤ → Report
 told n w r x = record { number = n; whole = w; remainder = r; difference = x }
-
--- the conversion of a pool with a list of so many places
-data Conversion : Type 0 where
-  carried : State → ℕ → Conversion
-
-abbrev conversionsBy : (State → List Move → Outcome) → List Conversion → List Answer
-conversionsBy f [] = []
-conversionsBy f (carried s n ∷ cs) = seenOf (f s (places n)) ∷ conversionsBy f cs
-
-conversions : List Conversion → List Answer
-conversions cs = conversionsBy convert cs
-
-conversions-computed : (cs : List Conversion) → conversions cs ≡ conversionsBy (convertBy largestRemainder computed) cs
-unfolding conversions
-conversions-computed cs = ap (λ f. conversionsBy f cs) (fun-ext (λ s. fun-ext (λ lent. convert-computed s lent)))
 
 -- what is printed of a line
 data Printed : Type 0 where
@@ -252,7 +220,6 @@ def main():
     out = [HEAD]
     out += listing("direct-calls", "answers", calls(vectors), "seenOf turns computed")
     out += listing("direct-reports", "reports", reports(vectors), "told computed")
-    out += listing("direct-conversions", "conversions", conversions(vectors), "seenOf turns largestRemainder computed")
     out += largest_shares()
     for path in vectors.histories:
         if path.read_bytes().count(b"\n") > MOST_LINES:

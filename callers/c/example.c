@@ -1,6 +1,6 @@
 /* Replays a history, lists the devices and the intervals, asks for shares, for owners and for copies, also of the
- * opened pool, adds a device and lists the moves, adds the largest disk and one that is too large, asks for the
- * reports on three equal devices that share 100 points, and carries an image of version 1 over. */
+ * opened pool, adds a device and lists the moves, adds the largest disk and one that is too large, and asks for the
+ * reports on three equal devices that share 100 points. */
 #include <inttypes.h>
 #include <stdio.h>
 #include <string.h>
@@ -15,13 +15,6 @@ static const char history[] =
     "add 3 3,2\n"
     "remove 2\n"
     "resize 3 3\n";
-
-/* Version 1: R = 10, M = 16, capacities 143, 857 and 30, and the shares 2, 8 and 0 of before Wish 4. */
-static const uint8_t old_image[] = {
-    'R', 'S', 'L', 0, 1, 0, 0, 0, 0, 0, 0, 0, 10, 0, 16, 0, 3, 0, 3,
-    0, 1, 0, 0, 0, 143, 0, 2, 0, 0, 3, 89, 0, 3, 0, 0, 0, 30,
-    0, 0, 0, 0, 0, 1, 0, 0, 0, 1, 0, 2, 0, 0, 0, 9, 0, 1,
-};
 
 static uint8_t image[GORVYTS_IMAGE_MOST];
 static uint8_t next[GORVYTS_IMAGE_MOST];
@@ -38,36 +31,8 @@ static const char *sentence(uint32_t number)
     case GORVYTS_ID_PRESENT: return "the device to add is present";
     case GORVYTS_ID_ABSENT: return "the device is absent";
     case GORVYTS_POINT_PAST_RANGE: return "the point is at or above the range";
-    case GORVYTS_OTHER_VERSION: return "the image has another version";
     default: return "refused";
     }
-}
-
-static void print_moves(const uint64_t *answer)
-{
-    for (uint64_t i = 0; i < answer[2]; i++)
-        printf("%" PRIu64 " %" PRIu64 ": %" PRIu64 " to %" PRIu64 "\n",
-               list[4 * i], list[4 * i + 1], list[4 * i + 2], list[4 * i + 3]);
-    printf("image of %" PRIu64 " bytes\n", answer[0]);
-}
-
-/* The shares become 1, 9 and 0: a point of device 1 goes to device 2. Ends with 1 where the conversion is refused. */
-static int carry_over(void)
-{
-    const size_t places = sizeof list / sizeof *list;
-    uint64_t answer[3];
-    uint32_t number = gorvyts_check(old_image, sizeof old_image);
-    printf("check of version 1: %" PRIu32 ", %s\n", number, sentence(number));
-    if (gorvyts_convert(old_image, sizeof old_image, next, sizeof next, list, places, answer, 3) != 0)
-        return 1;
-    printf("convert: %" PRIu64 " points in %" PRIu64 " moves\n", answer[1], answer[2]);
-    print_moves(answer);
-    const size_t length = answer[0];
-    if (gorvyts_check(next, length) != 0)
-        return 1;
-    number = gorvyts_convert(next, length, image, sizeof image, list, places, answer, 3);
-    printf("convert again: %" PRIu32 ", %s\n", number, sentence(number));
-    return 0;
 }
 
 int main(void)
@@ -133,7 +98,10 @@ int main(void)
     if (number != 0)
         return 1;
     printf("add 4: %" PRIu64 " points in %" PRIu64 " moves\n", answer[1], answer[2]);
-    print_moves(answer);
+    for (uint64_t i = 0; i < answer[2]; i++)
+        printf("%" PRIu64 " %" PRIu64 ": %" PRIu64 " to %" PRIu64 "\n",
+               list[4 * i], list[4 * i + 1], list[4 * i + 2], list[4 * i + 3]);
+    printf("image of %" PRIu64 " bytes\n", answer[0]);
 
     for (uint64_t capacity = GORVYTS_CAPACITY_MOST; capacity <= GORVYTS_CAPACITY_MOST + 1; capacity++) {
         number = gorvyts_add(image, length, 4, capacity, next, sizeof next, list, sizeof list / sizeof *list, answer, 3);
@@ -149,5 +117,5 @@ int main(void)
         printf("report on %" PRIu64 ": %" PRIu32 ", %s, due %" PRIu64 " and a remainder of %" PRIu64 ", difference %" PRId64 "\n",
                id, number, sentence(number), answer[0], answer[1], difference);
     }
-    return carry_over();
+    return 0;
 }

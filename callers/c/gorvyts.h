@@ -13,10 +13,10 @@
  * numbers may be stored again, unchanged). Bytes past a written image stay, and so do the places of a
  * list past its moves and of rows past the last one.
  *
- * Stack: measured on x86-64 (callers/c/stack.c), the changes need 380 KB, gorvyts_convert and gorvyts_replay 360,
+ * Stack: measured on x86-64 (callers/c/stack.c), the changes need 380 KB, gorvyts_replay 360,
  * gorvyts_transcript 340, gorvyts_open and the lookups on an image 180, gorvyts_check, gorvyts_numbers,
- * gorvyts_share, gorvyts_report, gorvyts_devices and gorvyts_intervals 170, gorvyts_fresh 90, gorvyts_owner_in and
- * gorvyts_copies_in 4. A thread of 256 KB is too small for those of over 300: it ends the process.
+ * gorvyts_share, gorvyts_report, gorvyts_devices and gorvyts_intervals 160, gorvyts_fresh 90, gorvyts_owner_in and
+ * gorvyts_copies_in 4. A thread of 256 KB is too small for the first three: it ends the process.
  *
  * Cost: every call on an image reads and checks all of it, which takes far longer than the lookup itself; a
  * single gorvyts_owner or gorvyts_copies takes as long as some hundred blocks of gorvyts_copies_of_many,
@@ -45,14 +45,14 @@ enum {
     GORVYTS_ID_ABSENT = 5,        /* remove, resize, share, report: the id is absent */
     GORVYTS_TOO_MANY_DEVICES = 6, /* add: 256 devices are present */
     GORVYTS_ONLY_DEVICE = 7,      /* remove: it is the only device */
-    GORVYTS_TOO_MANY_INTERVALS = 8, /* a change, convert: the new table has over M intervals */
-    GORVYTS_TOO_MANY_MOVES = 9,   /* a change, convert: more moves than places in the list */
+    GORVYTS_TOO_MANY_INTERVALS = 8, /* a change: the new table has over M intervals */
+    GORVYTS_TOO_MANY_MOVES = 9,   /* a change: more moves than places in the list */
     GORVYTS_NO_DEVICE = 10,       /* copies, owner: no device is present */
     GORVYTS_COPIES_COUNT = 11,    /* copies: k is 0 or above 8 */
     GORVYTS_TOO_FEW_OWNERS = 12,  /* copies: fewer than k different owners in 256 probes */
     GORVYTS_POINT_PAST_RANGE = 13, /* owner: the point is at or above R */
     GORVYTS_NO_IMAGE = 14,        /* an image: under 19 bytes, or another mark */
-    GORVYTS_OTHER_VERSION = 15,   /* an image: a version other than 2; convert: other than 1 */
+    GORVYTS_OTHER_VERSION = 15,   /* an image: a version other than 2 */
     GORVYTS_FAULTY_IMAGE = 16,    /* an image: any other fault */
     GORVYTS_BUFFER_TOO_SHORT = 17 /* a buffer, a row or an answer is too short */
 };
@@ -67,7 +67,7 @@ enum {
 #define GORVYTS_CAPACITY_MOST 16000000
 
 /* Whether the bytes are the image of a pool: 0, 14, 15 or 16. An image has version 2; one of version 1, from before
- * the share rule of Wish 4, gets 15, and gorvyts_convert carries it over. */
+ * the share rule of Wish 4, gets 15. */
 uint32_t gorvyts_check(const uint8_t *image, size_t image_size);
 
 /* The image of a fresh pool of range R and interval limit M. answer[0]: its length.
@@ -125,15 +125,6 @@ uint32_t gorvyts_remove(const uint8_t *image, size_t image_size, uint64_t id,
                         uint8_t *next, size_t next_size, uint64_t *list, size_t list_size, uint64_t *answer, size_t answer_size);
 uint32_t gorvyts_resize(const uint8_t *image, size_t image_size, uint64_t id, uint64_t capacity,
                         uint8_t *next, size_t next_size, uint64_t *list, size_t list_size, uint64_t *answer, size_t answer_size);
-
-/* Carries an image of version 1 over: from its bytes to the image of the pool in version 2, in `next`, with the moves
- * in `list` and the answer as of a change. The image is checked under the share rule of its time: R × c / C rounded
- * down, and the points left over one each to the devices with the largest remainder, of equal ones to the lower id.
- * Range, limit and devices stay; each device gets the share that gorvyts_share tells, and no table with these shares
- * moves fewer points from the old one. A pool without a device stays one, with no moves.
- * Refusals: 14; 15 for any version but 1; 16; 8, 9, 17, as of a change. */
-uint32_t gorvyts_convert(const uint8_t *image, size_t image_size, uint8_t *next, size_t next_size,
-                         uint64_t *list, size_t list_size, uint64_t *answer, size_t answer_size);
 
 /* The owner of a point. answer[0]: its id.
  * Refusals: 14, 15, 16, 13, 10, 17. */

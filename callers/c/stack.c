@@ -16,16 +16,9 @@ static const char history[] =
     "add 2 2\n"
     "add 3 3\n";
 
-/* An image of version 1: R = 10, capacities 143, 857 and 30, shares 2, 8 and 0. */
-static const uint8_t old_image[] = {
-    'R', 'S', 'L', 0, 1, 0, 0, 0, 0, 0, 0, 0, 10, 0, 16, 0, 3, 0, 3,
-    0, 1, 0, 0, 0, 143, 0, 2, 0, 0, 3, 89, 0, 3, 0, 0, 0, 30,
-    0, 0, 0, 0, 0, 1, 0, 0, 0, 1, 0, 2, 0, 0, 0, 9, 0, 1,
-};
-
 static const char *const names[] = {
     "check", "fresh", "replay", "transcript", "add", "remove", "resize", "owner", "copies", "copies_of_many", "open", "owner_in", "copies_in",
-    "numbers", "share", "report", "devices", "intervals", "convert",
+    "numbers", "share", "report", "devices", "intervals",
 };
 
 static uint8_t image[GORVYTS_IMAGE_MOST], next[GORVYTS_IMAGE_MOST], out[GORVYTS_TRANSCRIPT_ROOM];
@@ -58,8 +51,7 @@ static uint32_t call(int which)
     case 14: return gorvyts_share(image, length, 3, answer, 1);
     case 15: return gorvyts_report(image, length, 3, answer, 2, &difference);
     case 16: return gorvyts_devices(image, length, list, places);
-    case 17: return gorvyts_intervals(image, length, list, places);
-    default: return gorvyts_convert(old_image, sizeof old_image, next, sizeof next, list, places, answer, 3);
+    default: return gorvyts_intervals(image, length, list, places);
     }
 }
 
@@ -95,7 +87,7 @@ int main(void)
     if (gorvyts_replay((const uint8_t *)history, strlen(history), image, sizeof image, answer, 3) != 0)
         return 1;
     length = answer[0];
-    for (int which = 0; which < 19; which++) {
+    for (int which = 0; which < 18; which++) {
         size_t bytes = taken(which);
         if (bytes == 0)
             return 1;

@@ -5,11 +5,11 @@
 //! where that is 12, and the others are zeros. Where there are too few places a call returns 17 and stores
 //! nothing at all. Beside those places a refused call leaves every value, and places past a result stay.
 //!
-//! A change or a conversion takes 0.4 MB of stack, a lookup, a report or a list of rows 0.2 MB: the main thread has them, and so has a thread
+//! A change takes 0.4 MB of stack, a lookup, a report or a list of rows 0.2 MB: the main thread has them, and so has a thread
 //! that `std::thread` makes (2 MB). A lookup of an opened pool takes 4 KB. `gorvyts.h` has the figures.
 
-pub use crate::raw::{add, check, convert, copies, copies_in, copies_of_many, devices, fresh, intervals};
-pub use crate::raw::{numbers, open, owner, owner_in, remove, replay, report, resize, share, transcript};
+pub use crate::raw::{add, check, copies, copies_in, copies_of_many, devices, fresh, intervals, numbers};
+pub use crate::raw::{open, owner, owner_in, remove, replay, report, resize, share, transcript};
 
 /// The bytes of the largest image.
 pub const IMAGE_MOST: usize = 26_131;

@@ -15,7 +15,7 @@ pub struct Opened {
     numbers: [u64; 3],
 }
 
-/// An accepted change, or a conversion.
+/// An accepted change.
 #[derive(Clone, Debug, PartialEq, Eq, Hash)]
 pub struct Change {
     /// The changed pool.
@@ -106,7 +106,7 @@ pub struct Tally {
 }
 
 impl Image {
-    /// The bytes as an image. Refusals: 14, 15 for a version other than 2, 16. [`Image::convert`] takes those of version 1.
+    /// The bytes as an image. Refusals: 14, 15 for a version other than 2, 16.
     pub fn check(bytes: impl Into<Vec<u8>>) -> Result<Image, Refusal> {
         let bytes = bytes.into();
         Refusal::unless_accepted(calls::check(&bytes))?;
@@ -123,13 +123,6 @@ impl Image {
     /// Refusals: 2 for more than 65,536 bytes.
     pub fn replay(text: &[u8]) -> Result<Image, Refusal> {
         Image::made(|image, answer| calls::replay(text, image, answer))
-    }
-
-    /// An image of version 1, from before the share rule of Wish 4, carried over: the same devices with the shares in
-    /// force, and no table with these shares moves fewer points from the old one. Refusals: 14, 15 for a version other
-    /// than 1, 16, 8.
-    pub fn convert(before: &[u8]) -> Result<Change, Refusal> {
-        Image::changed(|next, list, answer| calls::convert(before, next, list, answer))
     }
 
     /// The bytes.

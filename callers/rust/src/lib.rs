@@ -23,11 +23,6 @@
 //! let opened = change.image.open();
 //! assert_eq!(opened.owner(99), Ok(2));
 //! assert_eq!(opened.copies(7, 2, &mut tally)?, copies);
-//!
-//! // An image of version 1 is carried over: range 10, limit 16, no device.
-//! let old = b"RSL\x00\x01\x00\x00\x00\x00\x00\x00\x00\x0a\x00\x10\x00\x00\x00\x00";
-//! assert_eq!(Image::check(*old), Err(Refusal::OtherVersion));
-//! assert_eq!(Image::convert(old)?.image, Image::fresh(10, 16)?);
 //! # Ok::<(), Refusal>(())
 //! ```
 

@@ -100,17 +100,6 @@ extern "C" {
         answer_size: usize,
     ) -> u32;
 
-    fn gorvyts_convert(
-        image: *const u8,
-        image_size: usize,
-        next: *mut u8,
-        next_size: usize,
-        list: *mut u64,
-        list_size: usize,
-        answer: *mut u64,
-        answer_size: usize,
-    ) -> u32;
-
     fn gorvyts_owner(
         image: *const u8,
         image_size: usize,
@@ -316,24 +305,6 @@ pub fn resize(
             image.len(),
             id,
             capacity,
-            next.as_mut_ptr(),
-            next.len(),
-            list.as_mut_ptr(),
-            list.len(),
-            answer.as_mut_ptr(),
-            answer.len(),
-        )
-    }
-}
-
-/// Carries an image of version 1 over to version 2; buffers as of [`add`]. Refusals: 14, 15 for any version but 1, 16,
-/// 8, 9, 17.
-pub fn convert(image: &[u8], next: &mut [u8], list: &mut [u64], answer: &mut [u64]) -> u32 {
-    // SAFETY: each pointer and count are those of one slice; the image is only read, the others are exclusive.
-    unsafe {
-        gorvyts_convert(
-            image.as_ptr(),
-            image.len(),
             next.as_mut_ptr(),
             next.len(),
             list.as_mut_ptr(),

@@ -102,7 +102,7 @@ impl fmt::Display for Refusal {
             Refusal::TooFewOwners => "256 tries met fewer different owners than copies are asked for",
             Refusal::PointPastRange => "the point is at or above the range",
             Refusal::NoImage => "an image has at least 19 bytes and begins with the mark RSL",
-            Refusal::OtherVersion => "the image has another version than the call takes",
+            Refusal::OtherVersion => "the image has another version",
             Refusal::FaultyImage => "the image has a fault",
             Refusal::BufferTooShort => "a buffer is too short",
         })

@@ -4,8 +4,7 @@
 //! equal, and so must every place of every buffer, with the places around it that are not lent. Which numbers
 //! occurred is counted for each call, and the test fails where one that the call can return did not occur. The moves
 //! of each accepted change must go only to an added device, only from a removed one, and only to or only from one that
-//! is resized. An image that a conversion gives must be accepted by the check and refused by a second conversion, and its
-//! moves must lead from the old owners to the new.
+//! is resized.
 //!
 //! GORVYTS_SEED (a number) gives other inputs and GORVYTS_ROUNDS (default 150) more or fewer. A difference is
 //! printed with its seed and round; GORVYTS_ONLY runs that round alone.
@@ -18,12 +17,12 @@ use std::env;
 use std::fmt::Debug;
 
 use gorvyts::{calls, DeviceRow, Image, IntervalRow};
-use inputs::pools::{alternating, by_both_rules, composed, of_before, swept, Change, Plan};
+use inputs::pools::{alternating, by_both_rules, composed, swept, Change, Plan};
 use inputs::{images, pools, texts, Random};
 use reference::calls as expected;
 use reference::history;
 use reference::image;
-use reference::pool::{shares, Pool, DEVICES_MOST, LIMIT_MOST, RANGE_MOST};
+use reference::pool::{Pool, DEVICES_MOST, LIMIT_MOST, RANGE_MOST};
 
 const SEED: u64 = 20_180_401;
 const ROUNDS: u64 = 150;
@@ -52,7 +51,6 @@ fn every_call_is_the_reference() {
         trial.given_pools(random);
         trial.swept_pools(random);
         trial.pools_by_both_rules(random);
-        trial.images_of_before(random);
         trial.histories(random);
     }
     trial.print();
@@ -70,7 +68,7 @@ fn number(variable: &str) -> Option<u64> {
 
 /// What each call can return, and what can stand in a row and in a line of a transcript. A move list of 4,096
 /// places, as transcripts have it, is enough for every change (`swept`), so that no line gets 9.
-const CAN_OCCUR: [(&str, &[u32]); 21] = [
+const CAN_OCCUR: [(&str, &[u32]); 20] = [
     ("check", &[0, 14, 15, 16]),
     ("fresh", &[0, 2, 17]),
     ("replay", &[0, 2, 17]),
@@ -79,7 +77,6 @@ const CAN_OCCUR: [(&str, &[u32]); 21] = [
     ("add", &[0, 2, 4, 6, 8, 9, 14, 15, 16, 17]),
     ("remove", &[0, 2, 5, 7, 8, 9, 14, 15, 16, 17]),
     ("resize", &[0, 2, 5, 8, 9, 14, 15, 16, 17]),
-    ("convert", &[0, 8, 9, 14, 15, 16, 17]),
     ("owner", &[0, 10, 13, 14, 15, 16, 17]),
     ("copies", &[0, 10, 11, 12, 14, 15, 16, 17]),
     ("copies_of_many", &[0, 14, 15, 16, 17]),
@@ -187,7 +184,6 @@ struct Trial {
     most_devices: usize,
     most_intervals: usize,
     most_moves: usize,
-    most_moves_converted: u64,
     differences: Vec<String>,
 }
 
@@ -224,7 +220,7 @@ impl Trial {
                 self.told_whole(random, &pool);
             }
             if random.one_in(8) {
-                let bytes = images::damaged(random, image::IN_FORCE, &pool);
+                let bytes = images::damaged(random, &pool);
                 self.any_call(random, &bytes, &pool);
             }
         }
@@ -242,7 +238,7 @@ impl Trial {
                 8 => random.between(61, 256),
                 _ => 256,
             };
-            let mut pool = composed(random, shares, count as usize);
+            let mut pool = composed(random, count as usize);
             if random.one_in(40) {
                 pool = alternating(LIMIT_MOST);
             }
@@ -250,7 +246,7 @@ impl Trial {
             self.lookups(random, &pool);
             self.told_whole(random, &pool);
             for _ in 0..12 {
-                let bytes = images::damaged(random, image::IN_FORCE, &pool);
+                let bytes = images::damaged(random, &pool);
                 self.check(&bytes);
                 self.any_call(random, &bytes, &pool);
             }
@@ -277,36 +273,12 @@ impl Trial {
             let mut bytes = image::write(&pool);
             assert_eq!(self.check(&bytes), expected);
             self.any_call(random, &bytes, &pool);
-            for version in [1, 3] {
-                images::put_version(&mut bytes, version);
+            for version in [1u16, 3] {
+                bytes[3..5].copy_from_slice(&version.to_be_bytes());
                 assert_eq!(self.check(&bytes), 15);
                 self.any_call(random, &bytes, &pool);
             }
         }
-    }
-
-    /// Images of before Wish 4 carried over: as they are, with other versions in their place, damaged, and with the
-    /// shares in force.
-    fn images_of_before(&mut self, random: &mut Random) {
-        for _ in 0..8 {
-            let pool = of_before(random);
-            let bytes = image::write_as(image::BEFORE, &pool);
-            self.most(&pool, 0);
-            for _ in 0..3 {
-                self.conversion(random, &bytes);
-            }
-            for version in [0, 2, 3, 256] {
-                let mut other = bytes.clone();
-                images::put_version(&mut other, version);
-                self.conversion(random, &other);
-            }
-            for _ in 0..6 {
-                let damaged = images::damaged(random, image::BEFORE, &pool);
-                self.conversion(random, &damaged);
-            }
-        }
-        let (pool, _) = by_both_rules(random);
-        self.conversion(random, &image::write_as(image::BEFORE, &pool));
     }
 
     fn histories(&mut self, random: &mut Random) {
@@ -370,21 +342,6 @@ impl Trial {
             self.change(random, &bytes, change, long);
         }
         result.ok().map(|changed| changed.pool)
-    }
-
-    /// A conversion of any bytes, with buffers of a size near that needed.
-    fn conversion(&mut self, random: &mut Random, bytes: &[u8]) {
-        let changed = image::read_as(image::BEFORE, bytes).and_then(|pool| pool.convert(usize::MAX));
-        let (image, list) = match &changed {
-            Ok(changed) => (image::write(&changed.pool).len(), 4 * changed.moves.len()),
-            Err(_) => (bytes.len(), 8),
-        };
-        let sizes = Sizes {
-            next: random.size_near(image),
-            list: random.size_near(list),
-            answer: answer_size(random, 3),
-        };
-        self.convert(random, bytes, sizes);
     }
 
     fn lookups(&mut self, random: &mut Random, pool: &Pool) {
@@ -509,11 +466,10 @@ impl Trial {
     /// One of the calls on an image, with any bytes in its place; the pool is that from which they come.
     fn any_call(&mut self, random: &mut Random, bytes: &[u8], pool: &Pool) {
         let ids: Vec<u64> = pool.devices.iter().map(|device| device.id).collect();
-        match random.below(9) {
+        match random.below(8) {
             0 => {
                 self.check(bytes);
             }
-            8 => self.conversion(random, bytes),
             6 => self.any_opening(random, bytes),
             7 => self.told_of(random, bytes, pool),
             1 => {
@@ -662,32 +618,6 @@ impl Trial {
             astray(change, &list.lend()[..moves]),
         ];
         self.told(call, number, apart, || format!("{change:?}, {sizes:?}, image {}", hex(bytes)))
-    }
-
-    fn convert(&mut self, random: &mut Random, bytes: &[u8], sizes: Sizes) {
-        let lent = bytes.to_vec();
-        let mut next = Lent::new(random, sizes.next);
-        let mut list = Lent::new(random, sizes.list);
-        let mut answer = Lent::new(random, sizes.answer);
-        let (mut next2, mut list2, mut answer2) = (next.clone(), list.clone(), answer.clone());
-        let number = (
-            calls::convert(&lent, next.lend(), list.lend(), answer.lend()),
-            expected::convert(bytes, next2.lend(), list2.lend(), answer2.lend()),
-        );
-        let mut apart = [
-            next.apart("next", &next2),
-            list.apart("list", &list2),
-            answer.apart("answer", &answer2),
-            changed("image", &lent, bytes),
-            None,
-        ];
-        if number == (0, 0) && apart.iter().all(Option::is_none) {
-            let [length, moved, moves] = [0, 1, 2].map(|place| answer.lend()[place]);
-            let (next, list) = (&next.lend()[..length as usize], &list.lend()[..4 * moves as usize]);
-            apart[4] = miscarried(bytes, next, list, moved);
-            self.most_moves_converted = self.most_moves_converted.max(moves);
-        }
-        self.told("convert", number, apart, || format!("{sizes:?}, image {}", hex(bytes)));
     }
 
     fn owner(&mut self, random: &mut Random, bytes: &[u8], point: u64, answer: usize) -> u32 {
@@ -882,47 +812,6 @@ fn astray(change: Change, moves: &[u64]) -> Option<String> {
     (!right).then(|| "moves between other devices".to_string())
 }
 
-/// Above this many points the owners of all are not compared.
-const FEW_POINTS: u64 = 10_000;
-
-/// Says so where the image of a conversion is not an image, or is converted again, or where the safe function gives
-/// another, or where the moves, four numbers each, do not lead from the old owners to the new.
-fn miscarried(before: &[u8], next: &[u8], moves: &[u64], moved: u64) -> Option<String> {
-    if calls::check(next) != 0 {
-        return Some("the check refuses the new image".to_string());
-    }
-    let (mut buffer, mut list, mut answer) = ([7; 99], [7; 8], [7; 3]);
-    let again = calls::convert(next, &mut buffer, &mut list, &mut answer);
-    if (again, buffer, list, answer) != (15, [7; 99], [7; 8], [0; 3]) {
-        return Some("the new image is converted again".to_string());
-    }
-    let change = Image::convert(before).unwrap();
-    let numbers = change.moves.iter().flat_map(|m| [m.start, m.length, m.from, m.to]);
-    if change.image.as_bytes() != next || change.moved != moved || !numbers.eq(moves.iter().copied()) {
-        return Some("the safe function gives another change".to_string());
-    }
-    let (old, new) = (image::read_as(image::BEFORE, before).unwrap(), image::read(next).unwrap());
-    if old.range > FEW_POINTS {
-        return None;
-    }
-    let (mut owners, new) = (owners(&old), owners(&new));
-    let changing = owners.iter().zip(&new).filter(|(old, new)| old != new).count() as u64;
-    for one in moves.chunks_exact(4) {
-        let points = &mut owners[one[0] as usize..][..one[1] as usize];
-        if points.iter().any(|&owner| owner != one[2]) {
-            return Some(format!("a move from {}, which has not all of its points", one[2]));
-        }
-        points.fill(one[3]);
-    }
-    (owners != new || changing != moved).then(|| "the moves lead to other owners".to_string())
-}
-
-/// The owner of each point.
-fn owners(pool: &Pool) -> Vec<u64> {
-    let table = pool.table.iter();
-    table.flat_map(|i| std::iter::repeat(i.owner).take(i.length as usize)).collect()
-}
-
 /// Says so where a call changed what it only reads.
 fn changed<T: PartialEq>(name: &str, lent: &[T], before: &[T]) -> Option<String> {
     (lent != before).then(|| format!("{name} is changed"))
@@ -979,8 +868,8 @@ impl Trial {
         let counts: Vec<String> = each.iter().map(|(number, count)| format!("{number}: {count}")).collect();
         println!("differential, all: {}", counts.join(", "));
         println!(
-            "differential, at most: {} devices, {} intervals, {} moves, {} of a conversion",
-            self.most_devices, self.most_intervals, self.most_moves, self.most_moves_converted
+            "differential, at most: {} devices, {} intervals, {} moves",
+            self.most_devices, self.most_intervals, self.most_moves
         );
         println!("differential: {} calls compared, {} differences", self.made, self.differences.len());
         for difference in self.differences.iter().take(TOLD) {
@@ -992,7 +881,6 @@ impl Trial {
         assert_eq!(self.most_devices, DEVICES_MOST);
         assert_eq!(self.most_intervals as u64, LIMIT_MOST);
         assert_eq!(self.most_moves as u64, LIMIT_MOST);
-        assert!(self.most_moves_converted > 100);
         for (call, numbers) in CAN_OCCUR {
             for &number in numbers {
                 let count = self.occurred.get(&(call, number)).copied().unwrap_or(0);

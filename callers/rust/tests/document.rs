@@ -8,7 +8,7 @@ use gorvyts::{Copies, DeviceRow, Image, IntervalRow, Move, Numbers, Refusal, Rep
 use reference::history;
 use reference::image;
 use reference::lookup::point_of_word;
-use reference::pool::{self, largest_remainder, shares, Device, Pool};
+use reference::pool::{self, shares, Device, Pool};
 use reference::sha1;
 
 const EXAMPLE: &[u8] = b"range 100 16
@@ -225,80 +225,6 @@ fn shares_of_before_wish_4() {
         let bytes = image::write(&pool);
         assert_eq!(image::read(&bytes).err().unwrap_or(0), expected);
         assert_eq!(gorvyts::calls::check(&bytes), expected);
-    }
-}
-
-/// K11's pool after the add of before Wish 4, which took point 9 from device 2 to device 1.
-fn k11_of_before() -> Pool {
-    let before =
-        [(1, 143), (2, 857), (3, 30)].iter().fold(Pool::fresh(10, 16).unwrap(), |pool, &(id, capacity)| {
-            pool.add_by(largest_remainder, id, capacity, 4096).unwrap().pool
-        });
-    assert_eq!(largest_remainder(10, &before.devices), [2, 8, 0]);
-    assert_eq!(table(&before), [(0, 0, 1), (1, 8, 2), (9, 9, 1)]);
-    before
-}
-
-/// Wish 5: device 1 releases the one point of its first interval to device 2.
-#[test]
-fn k11_carried_over() -> Result<(), Refusal> {
-    let before = k11_of_before();
-    let after = before.convert(4096).unwrap();
-    assert_eq!(shares(10, &after.pool.devices), [1, 9, 0]);
-    assert_eq!(table(&after.pool), [(0, 8, 2), (9, 9, 1)]);
-    assert_eq!((after.moved, after.moves), (1, vec![pool::Move { start: 0, length: 1, from: 1, to: 2 }]));
-
-    let change = Image::convert(&image::write_as(image::BEFORE, &before))?;
-    assert_eq!(change.image.as_bytes(), image::write(&after.pool));
-    assert_eq!((change.moved, change.moves), (1, vec![Move { start: 0, length: 1, from: 1, to: 2 }]));
-    assert_eq!([1, 2, 3].map(|id| change.image.share(id)), [1, 9, 0].map(Ok));
-    assert_eq!(Image::check(change.image.as_bytes()), Ok(change.image.clone()));
-    assert_eq!(Image::convert(change.image.as_bytes()), Err(Refusal::OtherVersion));
-    assert_eq!(Image::convert(&image::write_as(image::BEFORE, &after.pool)), Err(Refusal::FaultyImage));
-    Ok(())
-}
-
-#[test]
-fn only_version_1_is_carried_over() -> Result<(), Refusal> {
-    let bytes = image::write_as(image::BEFORE, &k11_of_before());
-    for version in [0u16, 2, 3, 256, 257, 65_535] {
-        let mut other = bytes.clone();
-        other[3..5].copy_from_slice(&version.to_be_bytes());
-        assert_eq!(Image::convert(&other), Err(Refusal::OtherVersion));
-    }
-    assert_eq!(Image::convert(&bytes[..18]), Err(Refusal::NoImage));
-    assert_eq!(Image::convert(&bytes[..19]), Err(Refusal::FaultyImage));
-    for (range, limit) in [(1, 1), (10, 16), (pool::RANGE_MOST, 4_096)] {
-        let change = Image::convert(&image::write_as(image::BEFORE, &built(range, limit, &[])))?;
-        assert_eq!((change.image, change.moved, change.moves), (Image::fresh(range, limit)?, 0, vec![]));
-    }
-    Ok(())
-}
-
-/// The device with a point too many has the last interval, so that its cut makes a third one.
-#[test]
-fn refusals_of_a_conversion_in_their_order() {
-    let mut before = k11_of_before();
-    before.table =
-        [(0, 8, 2), (8, 2, 1)].map(|(start, length, owner)| pool::Interval { start, length, owner }).to_vec();
-    for (limit, places, size, answer, expected) in [
-        (1, 3, 54, 2, 17),
-        (1, 3, 54, 3, 16),
-        (2, 3, 54, 3, 8),
-        (3, 3, 54, 3, 9),
-        (3, 4, 54, 3, 17),
-        (3, 4, 55, 3, 0),
-    ] {
-        let bytes = image::write_as(image::BEFORE, &Pool { limit, ..before.clone() });
-        let (mut next, mut list, mut answer) = (vec![7; size], vec![7; places], vec![7; answer]);
-        assert_eq!(gorvyts::calls::convert(&bytes, &mut next, &mut list, &mut answer), expected);
-        match expected {
-            0 => assert_eq!((list, answer), (vec![9, 1, 1, 2], vec![55, 1, 1])),
-            _ => {
-                assert_eq!((next, list), (vec![7; size], vec![7; places]));
-                assert_eq!(answer, if answer.len() < 3 { [7; 2].to_vec() } else { [0; 3].to_vec() });
-            }
-        }
     }
 }
 

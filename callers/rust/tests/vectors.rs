@@ -9,7 +9,7 @@ use std::fs;
 use std::path::{Path, PathBuf};
 
 use gorvyts::calls::{self, IMAGE_MOST};
-use gorvyts::{Change, Image, Refusal};
+use gorvyts::{Image, Refusal};
 use reference::lookup::{self, Tally};
 use reference::pool::{Changed, Pool, Report};
 use reference::{history, image, sha1};
@@ -115,9 +115,6 @@ fn by_reference(words: &[&str]) -> String {
             let pool = read(pool);
             changed(&pool, pool.resize(number(id), number(capacity), number(places) as usize))
         }
-        ["convert", bytes, size, places] => converted(size, places, |next, list, answer| {
-            reference::calls::convert(&unhex(bytes), next, list, answer)
-        }),
         ["read", bytes] => {
             let (number, pool) = match image::read(&unhex(bytes)) {
                 Ok(pool) => (0, pool),
@@ -202,13 +199,6 @@ fn by_the_library(words: &[&str]) -> Option<String> {
                 calls::resize(&pool, number(id), number(capacity), next, list, answer)
             })
         }
-        ["convert", bytes, size, places] => {
-            let bytes = unhex(bytes);
-            let answer =
-                converted(size, places, |next, list, answer| calls::convert(&bytes, next, list, answer));
-            same_by_the_safe_function(&bytes, &answer);
-            answer
-        }
         ["read", bytes] => {
             let bytes = unhex(bytes);
             match calls::check(&bytes) {
@@ -233,37 +223,6 @@ fn changed_by_the_library(
     let after = if refusal == 0 { &next[..length as usize] } else { before };
     let list: String = list[..4 * moves as usize].iter().map(|number| format!(" {number}")).collect();
     format!("{refusal} {moved} {moves} {}{list}", hex(after))
-}
-
-/// The answer to a `convert` line: every byte of the buffer is aa before the call.
-fn converted(
-    size: &str,
-    places: &str,
-    call: impl FnOnce(&mut [u8], &mut [u64], &mut [u64]) -> u32,
-) -> String {
-    let mut next = vec![0xaa; number(size) as usize];
-    let mut list = vec![0; 4 * number(places) as usize];
-    let mut answer = [7; 3];
-    let refusal = call(&mut next, &mut list, &mut answer);
-    let [length, moved, moves] = answer;
-    let list: String = list[..4 * moves as usize].iter().map(|number| format!(" {number}")).collect();
-    format!("{refusal} {length} {moved} {moves} {}{list}", hex(&next))
-}
-
-/// The safe function gives the same change and the same refusal, but for 9 and 17: it has room for every image and every
-/// move.
-fn same_by_the_safe_function(bytes: &[u8], answer: &str) {
-    match Image::convert(bytes) {
-        Err(refusal) => assert!(answer.starts_with(&format!("{} 0 0 0 ", refusal.number()))),
-        Ok(_) if answer.starts_with("9 0 0 0 ") || answer.starts_with("17 0 0 0 ") => {}
-        Ok(Change { image, moves, moved }) => {
-            let (bytes, count) = (image.as_bytes(), moves.len());
-            assert!(answer.starts_with(&format!("0 {} {moved} {count} {}", bytes.len(), hex(bytes))));
-            let list: String =
-                moves.iter().map(|m| format!(" {} {} {} {}", m.start, m.length, m.from, m.to)).collect();
-            assert!(answer.ends_with(&list));
-        }
-    }
 }
 
 fn one(result: Result<u64, u32>) -> String {

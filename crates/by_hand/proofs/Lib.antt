@@ -1,4 +1,3 @@
-pub mod ArrayFields
 pub mod Copy
 pub mod LocalArrays
 pub mod Locals

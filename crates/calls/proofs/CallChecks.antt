@@ -2,7 +2,7 @@
 --
 --   PlanOf o table k places r work next      r is the plan of the call k
 --
--- the change: settled_open (what is planned whatever each device has, where it has its share)
+-- Open: open_table (what `raise` asks)
 -- limits: inside_limits
 -- planned_called
 -- add: add_two, add_four, add_six, add_first, add_settle
@@ -22,20 +22,29 @@ use Rattle.slicing.specs.Runs.{◌of◌}
 use Rattle.slicing.specs.ShareRule.{shares}
 use Rattle.slicing.specs.SixSteps.{Move}
 use Rattle.slicing.proofs.Limits.{or_false, outside_false}
-use Rattle.slicing.proofs.ShareRule.{shares_distinct}
-use Rattle.slicing_core.specs.Rows.{device_rows}
+use Rattle.slicing_core.specs.Rows.{at, device_rows}
 use Rattle.slicing_core.proofs.Rows.{length_device_rows}
+use Rattle.packed_runs.specs.Words.{runs, Labelled}
 use Rattle.opened.specs.OpenPools.{devices_in, state_in, Open}
-use Rattle.plans.specs.Plans.{Settled, Planned}
+use Rattle.plans.specs.Plans.{Planned, state_by}
 use Rattle.calls.specs.Calls.{change_of}
 use Rattle.calls.specs.declared.Call.{Call}
 use Rattle.opened.specs.declared.Opened.{Opened}
 use Rattle.plans.specs.declared.Plan.{Plan}
 use Rattle.plans.specs.declared.Rows.{Rows}
-use Rattle.resharing.specs.Resharing.{Reshared}
-use Rattle.resharing.proofs.MergedRows.{Prepared, settled_prepared}
-use Rattle.opened.proofs.OpenPools.{open_rising}
+use Rattle.calls.proofs.MergedRows.{Prepared}
+use Rattle.calls.proofs.NextDevices.{open_few}
 use Rattle.plans.proofs.Planning.{Refusal, planned_same, planned_refused}
+use Rattle.opened.proofs.RowNames.{length_relabel, length_runs}
+
+-- ---- an opened pool
+
+module _ {o : Opened} {table : List ℕ} (a : Open o table) where
+  pub open_table : (o.intervals ≤ 4096) × Labelled 256 table o.intervals
+  open_table = (
+    omega (arith, a.valid.fits, a.valid.room_most, length_relabel (at o.ids) (runs table 0 o.intervals), length_runs table 0 o.intervals),
+    λ j h. omega (arith, a.labels j h, open_few a),
+  )
 
 length_devices : (o : Opened) → length (devices_in o) ≡ o.devices
 length_devices o = length_device_rows o.ids o.capacities 0 o.devices
@@ -51,10 +60,10 @@ inside_limits d c m =
 
 -- ---- the change to the devices afterwards
 
--- each device of an opened pool has its share
-settled_open : {o : Opened} {table : List ℕ} → Open o table → (es : List Device) {places : ℕ} {r : Plan} {work next : List ℕ}
-    → Reshared o table es places r work next → Planned (λ lent. settle shares (state_in o table) lent es) places o r work next
-settled_open {o} a es w = w (shares o.range (devices_in o)) (shares_distinct o.range (devices_in o) (open_rising a)) a.valid
+-- what the rules say of the state by the names of the rows, they say of the opened pool
+settle_prepared : {o : Opened} {table : List ℕ} {e : Opened} {rs : Rows} {work : List ℕ} {es : List Device} → Prepared o table e rs work es
+    → (lent : List Move) → settle shares (state_by o rs work) lent (devices_in e) ≡ settle shares (state_in o table) lent es
+settle_prepared {o} {table} {e} p lent = ap (λ s. settle shares s lent (devices_in e)) p.state ∙ ap (settle shares (state_in o table) lent) p.devices
 
 admit_some : (s : State) (lent : List Move) (d c : ℕ) (ds : List Device) → 1 ≤ length ds → admit shares s lent d c ds ≡ settle shares s lent (insert d c ds)
 admit_some s lent d c [] l = absurd (omega arith)
@@ -98,24 +107,24 @@ module _ (o : Opened) (table : List ℕ) (d : ℕ) {places : ℕ} {r : Plan} {wo
           let none : devices_in o ≡ [] = ap (device_rows o.ids o.capacities 0) z in
           planned_same (λ lent l. rw (m, none))
 
-      pub add_settle : present d (devices_in o) ≡ false → o.devices < max_devices → 1 ≤ o.devices → Open o table → {e : Opened} {rs : Rows} {rows : List ℕ}
-          → Prepared o table e rs rows (insert d c (devices_in o)) → Settled o e rs rows places r work next → PlanOf o table (add d c) places r work next
+      pub add_settle : present d (devices_in o) ≡ false → o.devices < max_devices → 1 ≤ o.devices → {e : Opened} {rs : Rows} {rows : List ℕ}
+          → Prepared o table e rs rows (insert d c (devices_in o)) → Planned (λ lent. settle shares (state_by o rs rows) lent (devices_in e)) places o r work next
+          → PlanOf o table (add d c) places r work next
       unfolding change
-      add_settle g n some a p w =
-          planned_same
-          (λ lent l. sym (rw (m, g, lt-leb max_devices (length (devices_in o)) (omega (arith, length_devices o)))
+      add_settle g n some p =
+          planned_same (λ lent l. settle_prepared p lent
+          ∙ sym (rw (m, g, lt-leb max_devices (length (devices_in o)) (omega (arith, length_devices o)))
           (admit_some (state_in o table) lent d c (devices_in o) (omega (arith, length_devices o)))))
-          (settled_open a _ (settled_prepared p w))
 
       pub resize_five : present d (devices_in o) ≡ false → Refusal o 5 r → PlanOf o table (resize d c) places r work next
       unfolding change
       resize_five g e = planned_refused (state_in o table) 5 (omega arith) e (λ lent l. rw (m, g))
 
-      pub resize_settle : present d (devices_in o) ≡ true → Open o table → (es : List Device) → es ≡ update d c (devices_in o)
-          → Reshared o table es places r work next → PlanOf o table (resize d c) places r work next
+      pub resize_settle : present d (devices_in o) ≡ true → {e : Opened} {rs : Rows} {rows : List ℕ}
+          → Prepared o table e rs rows (update d c (devices_in o)) → Planned (λ lent. settle shares (state_by o rs rows) lent (devices_in e)) places o r work next
+          → PlanOf o table (resize d c) places r work next
       unfolding change
-      resize_settle g a es e w =
-          planned_same (λ lent l. ap (settle shares (state_in o table) lent) e ∙ sym (rw (m, g))) (settled_open a es w)
+      resize_settle g p = planned_same (λ lent l. settle_prepared p lent ∙ sym (rw (m, g)))
 
   pub remove_two : outside max_id d ≡ true → Refusal o 2 r → PlanOf o table (remove d) places r work next
   unfolding change
@@ -131,9 +140,10 @@ module _ (o : Opened) (table : List ℕ) (d : ℕ) {places : ℕ} {r : Plan} {wo
     remove_seven g n e =
         planned_refused (state_in o table) 7 (omega arith) e (λ lent l. rw (i, g, le-leb (length (devices_in o)) 1 (omega (arith, length_devices o))))
 
-    pub remove_settle : present d (devices_in o) ≡ true → 1 < o.devices → Open o table → {e : Opened} {rs : Rows} {rows : List ℕ}
-        → Prepared o table e rs rows (delete d (devices_in o)) → Settled o e rs rows places r work next → PlanOf o table (remove d) places r work next
+    pub remove_settle : present d (devices_in o) ≡ true → 1 < o.devices → {e : Opened} {rs : Rows} {rows : List ℕ}
+        → Prepared o table e rs rows (delete d (devices_in o)) → Planned (λ lent. settle shares (state_by o rs rows) lent (devices_in e)) places o r work next
+        → PlanOf o table (remove d) places r work next
     unfolding change
-    remove_settle g n a p w =
-        planned_same (λ lent l. sym (rw (i, g, lt-leb (length (devices_in o)) 1 (omega (arith, length_devices o)))))
-        (settled_open a _ (settled_prepared p w))
+    remove_settle g n p =
+        planned_same (λ lent l. settle_prepared p lent
+        ∙ sym (rw (i, g, lt-leb (length (devices_in o)) 1 (omega (arith, length_devices o)))))

@@ -1,3 +1,4 @@
+pub mod RaisedRows
 pub mod NextDevices
 pub mod MergedRows
 pub mod CallChecks

@@ -12,12 +12,14 @@ use packed_runs::ROOM;
 use plans::first::first;
 use plans::labels::raise;
 use plans::settling::{refused, settle};
-use plans::{NO_ROW, Plan, Rows};
-use resharing::reshare;
+use plans::{Plan, Rows};
 use slicing::{
     ABSENT, FULL, MAX_DEVICES, MAX_ID, ONLY_DEVICE, OUTSIDE, PRESENT, device_outside, outside,
 };
 use slicing_core::devices::{delete_row, insert_row};
+
+// The row of none: where no row comes in, or none goes.
+const NO_ROW: usize = 256;
 
 // A call for a change, with its arguments.
 #[derive(Drop)]
@@ -144,7 +146,18 @@ fn resize(
     let row = place.row;
     let mut capacities = before.capacities;
     capacities[row] = capacity;
-    reshare(before, &capacities, places, table, work, next)
+    let after = shared(before, n, &ids, &capacities);
+    let has = before.has;
+    let due = after.has;
+    raise(table, before.intervals, NO_ROW, &mut *work);
+    let rows = Rows {
+        count: n,
+        gone: NO_ROW,
+        names: ids,
+        has: has,
+        due: due,
+    };
+    settle(before, after, rows, places, work, next)
 }
 
 // The plan of a change of an opened pool, whose table is `table`, with a list of so many places: what an

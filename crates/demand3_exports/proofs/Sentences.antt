@@ -34,7 +34,7 @@ use Rattle.slicing_core.proofs.Rows.{length_device_rows}
 use Rattle.pools.specs.Pools.{state_of, pool_of}
 use Rattle.flat_moves.specs.FlatMoves.{moves_in}
 use Rattle.pools.proofs.PoolLaws.{state_of_pool_of, length_table_rows}
-use Rattle.move_lists.specs.Moves.{move_of, row_of}
+use Rattle.placement.specs.Promises.{move_of, row_of}
 use Rattle.image_numbers.specs.Format.{image_of, range_in, limit_in, devices_in, intervals_in, ids_in, capacities_in, starts_in, owners_in, state_in, Image}
 use Rattle.image_bytes.specs.RowBytes.{pool_in}
 use Rattle.image_numbers.proofs.ImageSizes.{length_image_of}

@@ -25,9 +25,8 @@ use Rattle.slicing.proofs.Changes.{valid_change, change_refused}
 use Rattle.pools.specs.Pools.{state_of, pool_of}
 use Rattle.flat_moves.specs.FlatMoves.{moves_in, flat}
 use Rattle.placement.specs.declared.ChangeAnswer.{ChangeAnswer}
-use Rattle.move_lists.specs.Moves.{move_of, row_of}
-use Rattle.placement.specs.Promises.{Answered, Changed}
-use Rattle.move_lists.specs.declared.Move.{Move}
+use Rattle.placement.specs.Promises.{move_of, row_of, Answered, Changed}
+use Rattle.placement.specs.declared.Move.{Move}
 use Rattle.flat_moves.proofs.FlatLists.{moves_in_flat}
 use Rattle.image_numbers.specs.Format.{image_of, state_in, Image}
 use Rattle.image_bytes.specs.RowBytes.{pool_in}
@@ -115,7 +114,7 @@ module _ (xs : List ℕ) (i : Image xs) (k : Change) (l : List ℕ) where
   pub changed_step : (r : ChangeAnswer) (after : List Move) → Answered lent o (pool_of o.state) r after → Changed (pool_in xs) lent k r after
   changed_step r after a = record {
     valid = λ v. subst (λ (u : Outcome). Answered lent u (pool_of u.state) r after) (sym same_outcome) a;
-    invalid = λ n. absurd (n (pool_in_valid xs shares i.sound.valid));
+    invalid = λ n. absurd (n (pool_in_valid xs i.sound.valid));
   }
 
   -- ys is the image for the next call

@@ -13,7 +13,7 @@ use Rattle.slicing.specs.Ledger.{Ledger}
 use Rattle.slicing_core.specs.Rows.{at}
 use Rattle.flat_moves.specs.FlatMoves.{moves_in}
 use Rattle.image_bytes.specs.RowBytes.{pool_in}
-use Rattle.move_lists.specs.Moves.{row_of}
+use Rattle.placement.specs.Promises.{row_of}
 use Rattle.image_changes.specs.Promises.{Moved, Changed}
 use Rattle.demand3.specs.CallLists.{Step, feed_step}
 

@@ -21,8 +21,7 @@ use Rattle.slicing.specs.Limits.{max_range, max_limit}
 use Rattle.slicing.specs.SixSteps.{move}
 use Rattle.slicing.specs.Validity.{Valid}
 use Rattle.slicing.proofs.Changes.{valid_change}
-use Rattle.move_lists.specs.Moves.{move_of, row_of}
-use Rattle.placement.specs.Promises.{Answered, Changed}
+use Rattle.placement.specs.Promises.{move_of, row_of, Answered, Changed}
 use Rattle.history_lines.specs.declared.lines.LineAnswer.{LineAnswer}
 use Rattle.history_lines.specs.declared.lines.LineAnswer.TheVariants.{Range, Add, Remove, Resize, Refused}
 use Rattle.history_lines.specs.Lines.{range_outside, line_in}

@@ -17,7 +17,7 @@ use Rattle.std.specs.Prelude.{◌≡◌, false, List, [], ◌∷◌, ◌++◌, �
 use Rattle.pools.specs.Pools.{state_of, pool_of}
 use Rattle.slicing.specs.Changes.{fresh, Change, add, remove, resize}
 use Rattle.slicing.specs.Ledger.{blank}
-use Rattle.move_lists.specs.declared.Move.{Move}
+use Rattle.placement.specs.declared.Move.{Move}
 use Rattle.history_lines.specs.declared.lines.LineAnswer.{LineAnswer}
 use Rattle.history_lines.specs.declared.lines.LineAnswer.TheVariants.{Range, Add, Remove, Resize, Refused}
 use Rattle.history_lines.specs.Lines.{range_outside, line_in}

@@ -1,9 +1,9 @@
-// Changes of the pool that an image describes, and its conversion from version 1.
+// Changes of the pool that an image describes.
 ghost use Rattle.slicing.specs.Changes as Changes;
-ghost use Rattle.image_changes.specs.Promises.{Changed, Converted};
+ghost use Rattle.image_changes.specs.Promises.{Changed};
 
 use calls::Call;
-use image_changes::{Task, perform};
+use image_changes::change_image;
 
 // Adds a device; the new image goes to `next`, the moves, four numbers each, to `list`; answer: the length
 // of the new image, the moved points, the number of moves. 14 to 16 as of `gorvyts_check`; 2 for an id
@@ -22,9 +22,9 @@ pub extern "C" fn gorvyts_add(
     ensures { Changed image.now (Changes.add id capacity) next.old list.old answer.old
         (record { number = result; image = next.new; list = list.new; answer = answer.new }) }
 {
-    perform(
+    change_image(
         image,
-        Task::Change(Call::Add(id, capacity)),
+        Call::Add(id, capacity),
         &mut *next,
         &mut *list,
         &mut *answer,
@@ -44,9 +44,9 @@ pub extern "C" fn gorvyts_remove(
     ensures { Changed image.now (Changes.remove id) next.old list.old answer.old
         (record { number = result; image = next.new; list = list.new; answer = answer.new }) }
 {
-    perform(
+    change_image(
         image,
-        Task::Change(Call::Remove(id)),
+        Call::Remove(id),
         &mut *next,
         &mut *list,
         &mut *answer,
@@ -67,27 +67,11 @@ pub extern "C" fn gorvyts_resize(
     ensures { Changed image.now (Changes.resize id capacity) next.old list.old answer.old
         (record { number = result; image = next.new; list = list.new; answer = answer.new }) }
 {
-    perform(
+    change_image(
         image,
-        Task::Change(Call::Resize(id, capacity)),
+        Call::Resize(id, capacity),
         &mut *next,
         &mut *list,
         &mut *answer,
     )
-}
-
-// Converts an image of version 1, whose shares are those of the rule before, into one of version 2, which goes to
-// `next`; moves and answer as of `gorvyts_add`. 14 under 19 bytes or for another mark; 15 for any version but 1;
-// 16 for any other fault; 8, 9 and 17 as of an add.
-#[unsafe(no_mangle)]
-pub extern "C" fn gorvyts_convert(
-    image: &[u8],
-    next: &mut [u8],
-    list: &mut [u64],
-    answer: &mut [u64],
-) -> u32
-    ensures { Converted image.now next.old list.old answer.old
-        (record { number = result; image = next.new; list = list.new; answer = answer.new }) }
-{
-    perform(image, Task::Convert, &mut *next, &mut *list, &mut *answer)
 }

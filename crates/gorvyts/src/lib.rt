@@ -10,7 +10,7 @@ mod looking;
 mod making;
 mod rows;
 
-pub use changes::{gorvyts_add, gorvyts_convert, gorvyts_remove, gorvyts_resize};
+pub use changes::{gorvyts_add, gorvyts_remove, gorvyts_resize};
 pub use looking::{
     gorvyts_copies, gorvyts_copies_in, gorvyts_copies_of_many, gorvyts_open, gorvyts_owner,
     gorvyts_owner_in,

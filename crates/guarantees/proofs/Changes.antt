@@ -28,9 +28,8 @@ use Rattle.slicing.proofs.Directions.{directed}
 use Rattle.pools.specs.Pools.{state_of, pool_of, ValidPool}
 use Rattle.placement.specs.declared.ChangeAnswer.{ChangeAnswer}
 use Rattle.pools.specs.declared.Pool.{Pool}
-use Rattle.move_lists.specs.Moves.{move_of, row_of}
-use Rattle.placement.specs.Promises.{Answered, Changed}
-use Rattle.move_lists.specs.declared.Move.{Move}
+use Rattle.placement.specs.Promises.{move_of, row_of, Answered, Changed}
+use Rattle.placement.specs.declared.Move.{Move}
 use Rattle.demand3.specs.Points.{Listed}
 use Rattle.demand3.proofs.Demand3.{map_back}
 use Rattle.guarantees.proofs.ChangeRules as Rule

@@ -1,7 +1,6 @@
 -- The outcomes of the calls for C and Rust, crate `gorvyts`: the number and every buffer afterwards.
 --
---   UnreadableBy v xs n   the image xs is refused with n, where the version v is asked for: 14, 15 or 16
---   Unreadable xs n       the same of version 2
+--   Unreadable xs n       the image xs is refused with n: 14, 15 or 16
 --   Tells n places r      the number n, and the places of the answer
 -- any call on an image: unread (14, 15, 16), read; an answer of one number: tells
 -- gorvyts_check: check_unreadable (14, 15, 16), check_image
@@ -41,11 +40,11 @@ use Rattle.lookup_core.proofs.Choosing.{firsts}
 use Rattle.lookups.specs.Copies.{copies_of}
 use Rattle.lookups.specs.Promises.{owner_answer}
 use Rattle.lookups.specs.declared.Counters.{Counters}
-use Rattle.image_numbers.specs.Format.{Version, version_two, image_of, version_in, state_in, marked, SoundBy, ImageBy, Image}
+use Rattle.image_numbers.specs.Format.{image_of, version_in, state_in, marked, Sound, Image}
 use Rattle.image_numbers.proofs.ImageSizes.{length_image_of}
 use Rattle.history.specs.Histories.{pool_after}
 use Rattle.history.specs.Replay.{replayed, transcript}
-use Rattle.images.specs.OnImages.{OnImageBy, unmarked, versioned, faulty, accepted}
+use Rattle.images.specs.OnImages.{OnImage, unmarked, versioned, faulty, accepted}
 use Rattle.answers.specs.Answers.{Answer}
 use Rattle.image_changes.specs.Promises.{Moved, Changed}
 use Rattle.lookup_numbers.specs.Told.{owner_told, row_of, counters_in, tally_of}
@@ -62,41 +61,38 @@ use Rattle.guarantees.proofs.Lookups.{halved_in}
 
 -- ---- images
 
-pub data UnreadableBy (v : Version) (xs : List ℕ) : ℕ → Type 0 where
-  few_bytes : length xs < 19 → UnreadableBy v xs 14
-  other_mark : 19 ≤ length xs → (Mark xs → ⊥) → UnreadableBy v xs 14
-  other_version : 19 ≤ length xs → Mark xs → (version_in xs ≡ v.number → ⊥) → UnreadableBy v xs 15
-  other_fault : 19 ≤ length xs → Mark xs → version_in xs ≡ v.number → (SoundBy v xs → ⊥) → UnreadableBy v xs 16
+pub data Unreadable (xs : List ℕ) : ℕ → Type 0 where
+  few_bytes : length xs < 19 → Unreadable xs 14
+  other_mark : 19 ≤ length xs → (Mark xs → ⊥) → Unreadable xs 14
+  other_version : 19 ≤ length xs → Mark xs → (version_in xs ≡ 2 → ⊥) → Unreadable xs 15
+  other_fault : 19 ≤ length xs → Mark xs → version_in xs ≡ 2 → (Sound xs → ⊥) → Unreadable xs 16
 
-abbrev pub Unreadable : List ℕ → ℕ → Type 0
-Unreadable xs n = UnreadableBy version_two xs n
-
-module _ {A : Type 0} {v : Version} {xs : List ℕ} {f : ℕ → A} {g : State → A} {r : A} where
-  fourteen : OnImageBy v xs f g r → marked xs ≡ false → r ≡ f 14
+module _ {A : Type 0} {xs : List ℕ} {f : ℕ → A} {g : State → A} {r : A} where
+  fourteen : OnImage xs f g r → marked xs ≡ false → r ≡ f 14
   fourteen (unmarked h e) m = e
-  fourteen (versioned h w e) m = absurd (false≢true (sym m ∙ h))
-  fourteen (faulty h w s e) m = absurd (false≢true (sym m ∙ h))
+  fourteen (versioned h v e) m = absurd (false≢true (sym m ∙ h))
+  fourteen (faulty h v s e) m = absurd (false≢true (sym m ∙ h))
   fourteen (accepted i e) m = absurd (false≢true (sym m ∙ i.first))
 
-  fifteen : OnImageBy v xs f g r → marked xs ≡ true → (version_in xs ≡ v.number → ⊥) → r ≡ f 15
-  fifteen (unmarked h e) m n = absurd (true≢false (sym m ∙ h))
-  fifteen (versioned h w e) m n = e
-  fifteen (faulty h w s e) m n = absurd (n w)
-  fifteen (accepted i e) m n = absurd (n i.second)
+  fifteen : OnImage xs f g r → marked xs ≡ true → (version_in xs ≡ 2 → ⊥) → r ≡ f 15
+  fifteen (unmarked h e) m v = absurd (true≢false (sym m ∙ h))
+  fifteen (versioned h w e) m v = e
+  fifteen (faulty h w s e) m v = absurd (v w)
+  fifteen (accepted i e) m v = absurd (v i.second)
 
-  sixteen : OnImageBy v xs f g r → marked xs ≡ true → version_in xs ≡ v.number → (SoundBy v xs → ⊥) → r ≡ f 16
-  sixteen (unmarked h e) m k n = absurd (true≢false (sym m ∙ h))
-  sixteen (versioned h w e) m k n = absurd (w k)
-  sixteen (faulty h w s e) m k n = e
-  sixteen (accepted i e) m k n = absurd (n i.sound)
+  sixteen : OnImage xs f g r → marked xs ≡ true → version_in xs ≡ 2 → (Sound xs → ⊥) → r ≡ f 16
+  sixteen (unmarked h e) m v n = absurd (true≢false (sym m ∙ h))
+  sixteen (versioned h w e) m v n = absurd (w v)
+  sixteen (faulty h w s e) m v n = e
+  sixteen (accepted i e) m v n = absurd (n i.sound)
 
-  pub unread : {n : ℕ} → OnImageBy v xs f g r → UnreadableBy v xs n → r ≡ f n
+  pub unread : {n : ℕ} → OnImage xs f g r → Unreadable xs n → r ≡ f n
   unread k (few_bytes h) = fourteen k (marked_short xs h)
   unread k (other_mark l h) = fourteen k (marked_other xs l h)
   unread k (other_version l m h) = fifteen k (marked_mark xs l m) h
-  unread k (other_fault l m w h) = sixteen k (marked_mark xs l m) w h
+  unread k (other_fault l m v h) = sixteen k (marked_mark xs l m) v h
 
-  pub read : OnImageBy v xs f g r → ImageBy v xs → r ≡ g (state_in xs)
+  pub read : OnImage xs f g r → Image xs → r ≡ g (state_in xs)
   read (unmarked h e) i = absurd (true≢false (sym i.first ∙ h))
   read (versioned h w e) i = absurd (w i.second)
   read (faulty h w n e) i = absurd (n i.sound)
@@ -179,7 +175,7 @@ module _ (xs b a : List ℕ) (r : Stored) (k : Transcript xs b a r) where
 abbrev pub Moves : ℕ → List ℕ → List ℕ → List ℕ → Moved → Type 0
 Moves n image list answer r = (r.number ≡ n) × (r.image ≡ image) × (r.list ≡ list) × (r.answer ≡ answer)
 
-pub moves_as : {n : ℕ} {image list answer : List ℕ} {r : Moved} → r ≡ record { number = n; image = image; list = list; answer = answer }
+moves_as : {n : ℕ} {image list answer : List ℕ} {r : Moved} → r ≡ record { number = n; image = image; list = list; answer = answer }
     → Moves n image list answer r
 moves_as e = (ap (λ s. s.number) e, ap (λ s. s.image) e, ap (λ s. s.list) e, ap (λ s. s.answer) e)
 

@@ -38,7 +38,7 @@ marked_other xs l h = rw (le-leb 19 (length xs) l, ne_eqb (number_at xs 0 3) 0x5
 pub marked_mark : (xs : List ℕ) → 19 ≤ length xs → Mark xs → marked xs ≡ true
 marked_mark xs l h = rw (le-leb 19 (length xs) l, eq-eqb (number_at xs 0 3) 0x52534c h)
 
-pub at_column : (xs : List ℕ) (k j n i : ℕ) → i < n → at (column xs k j n) i ≡ number_at xs (j + 6 * i) k
+at_column : (xs : List ℕ) (k j n i : ℕ) → i < n → at (column xs k j n) i ≡ number_at xs (j + 6 * i) k
 at_column xs k j zero i l = absurd (omega arith)
 at_column xs k j (suc n) zero l = let e : j ≡ j + 0 = omega arith in ap (λ p. number_at xs p k) e
 at_column xs k j (suc n) (suc i) l =

@@ -10,7 +10,6 @@ pub mod Lookups
 pub mod Images
 pub mod Histories
 pub mod Exports
-pub mod Conversions
 pub mod ExportedRows
 pub mod Reports
 pub mod Rules

@@ -1,48 +1,34 @@
--- Images of pools. Renders document 01, 'Image', and of document 02 the versions of Wishes 4 and 5.
+-- Images of pools. Renders document 01, 'Image', and of document 02 the version of Wish 4.
 --
---   mark                   the mark RSL as a number in three bytes
---   Version                a version's number, and the share rule that it stands for
---   version_one, version_two the versions; `current` is the one in force, `version` its number
+--   mark, version          the mark RSL as a number in three bytes; the version
+--   rule                   the share rule that this version stands for
 --   image_of s              the bytes of a state
 --   number_at xs i k        the number in k bytes from place i on
 --   column xs k i n        the numbers in k bytes of n rows of six bytes, the first at place i
 --   state_in xs             the state that the bytes of an image give
 --   marked xs              whether there is room for a head, and the mark
---   SoundBy v xs           no fault but mark and version, the table held against the rule of the version v
---   ImageBy v xs           an image of the version v
---   Sound xs, Image xs     the same of the version in force
+--   Sound xs               no fault but mark and version
 use Rattle.std.specs.Prelude.{◌≡◌, Bool, true, ◌&&◌, List, [], ◌∷◌, ◌++◌, ℕ, zero, suc, ◌+◌, ◌*◌, ◌^◌, eqb, leb, length}
 use Rattle.sha1_blocks.specs.Fips180.{bytes}
 use Rattle.slicing.specs.Changes.{State}
 use Rattle.slicing.specs.Devices.{Device}
-use Rattle.slicing.specs.LargestRemainder.{largest_remainder}
 use Rattle.slicing.specs.Runs.{Run, ◌of◌}
 use Rattle.slicing.specs.ShareRule.{Rule, shares}
-use Rattle.slicing.specs.Validity.{ValidBy}
+use Rattle.slicing.specs.Validity.{ValidWith}
 use Rattle.slicing_core.specs.Rows.{at, device_rows, table_rows}
 
 -- 'Bytes 0 to 2 hold the mark RSL (52 53 4C hexadecimal)'
 abbrev pub mark : ℕ
 mark = 0x52534c
 
--- a version stands for the share rule that its tables are held against: this is the one place that says which
-pub record Version : Type 0 where
-  pub number : ℕ
-  pub rule : Rule
-
--- 'the version 1' of document 01, with its rule: 'A converter checks one under the old share rule' (Wish 5)
-abbrev pub version_one : Version
-version_one = record { number = 1; rule = largest_remainder }
-
 -- 'Images carry version 2; version 1 gets 15.' (Wish 4)
-abbrev pub version_two : Version
-version_two = record { number = 2; rule = shares }
-
-abbrev pub current : Version
-current = version_two
-
 abbrev pub version : ℕ
-version = current.number
+version = 2
+
+-- a version stands for the share rule that its tables are held against: this is the one place that says which. Version 1 stood for the rule
+-- before
+abbrev pub rule : Rule
+rule = shares
 
 -- 'The device rows begin at byte 19'
 abbrev pub head_size : ℕ
@@ -123,18 +109,12 @@ abbrev pub marked : List ℕ → Bool
 marked xs = leb head_size (length xs) && eqb (number_at xs 0 3) mark
 
 -- 'The image's length is 19 + 6n + 6q.' 'Accepted are exactly the images that meet this and the rules of pool and shares.'
-pub record SoundBy (v : Version) (xs : List ℕ) : Type 0 where
+pub record Sound (xs : List ℕ) : Type 0 where
   pub exact : length xs ≡ head_size + 6 * devices_in xs + 6 * intervals_in xs
-  pub valid : ValidBy v.rule (state_in xs)
+  pub valid : ValidWith (rule (state_in xs).range (state_in xs).devices) (state_in xs)
 
 -- what an image of a pool is: nothing of 14, 15 and 16
-pub record ImageBy (v : Version) (xs : List ℕ) : Type 0 where
+pub record Image (xs : List ℕ) : Type 0 where
   pub first : marked xs ≡ true
-  pub second : version_in xs ≡ v.number
-  pub sound : SoundBy v xs
-
-abbrev pub Sound : List ℕ → Type 0
-Sound xs = SoundBy current xs
-
-abbrev pub Image : List ℕ → Type 0
-Image xs = ImageBy current xs
+  pub second : version_in xs ≡ version
+  pub sound : Sound xs

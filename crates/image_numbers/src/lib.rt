@@ -5,10 +5,7 @@ pub mod numbers;
 // The mark RSL, as a number in three bytes.
 pub const MARK: u64 = 0x52534c;
 
-// The version in force, which is written, and the one before, which is converted.
 pub const VERSION: u64 = 2;
-
-pub const VERSION_ONE: u64 = 1;
 
 // The bytes before the device rows.
 pub const HEAD: usize = 19;

@@ -2,7 +2,6 @@
 ghost use Rattle.image_rows.specs.Promises.{FoundOn};
 
 use packed_runs::blank;
-use share_rules::ShareRule;
 use valid_pools::{Found, find_device, not_found};
 
 // The device of an id. 14 to 16 as of a read; 2 for an id outside 1 to 65,535; 5 where it is absent.
@@ -10,7 +9,7 @@ pub fn find_on(image: &[u8], id: u64) -> Found
     ensures { FoundOn image.now id result }
 {
     let mut table = blank();
-    let made = images::read_open(image, ShareRule::InForce, &mut table);
+    let made = images::read_open(image, &mut table);
     if made.refusal > 0 {
         return not_found(made.refusal);
     }

@@ -5,7 +5,6 @@ ghost use Rattle.image_rows.specs.Promises.{device_numbers, interval_numbers, Li
 
 use opened::Opened;
 use packed_runs::{LABELS, ROOM, blank};
-use share_rules::ShareRule;
 use slicing::SHORT_BUFFER;
 
 // Puts a row at place `place`.
@@ -58,7 +57,7 @@ pub fn devices(image: &[u8], rows: &mut [u64]) -> u32
     ensures { Listed device_numbers image.now rows.old (record { number = result; places = rows.new }) }
 {
     let mut table = blank();
-    let made = images::read_open(image, ShareRule::InForce, &mut table);
+    let made = images::read_open(image, &mut table);
     if made.refusal > 0 {
         return made.refusal;
     }
@@ -76,7 +75,7 @@ pub fn intervals(image: &[u8], rows: &mut [u64]) -> u32
     ensures { Listed interval_numbers image.now rows.old (record { number = result; places = rows.new }) }
 {
     let mut table = blank();
-    let made = images::read_open(image, ShareRule::InForce, &mut table);
+    let made = images::read_open(image, &mut table);
     if made.refusal > 0 {
         return made.refusal;
     }

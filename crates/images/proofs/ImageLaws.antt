@@ -19,7 +19,7 @@ use Rattle.sha1_blocks.specs.Fips180.{bytes}
 use Rattle.slicing.specs.Changes.{State}
 use Rattle.slicing.specs.Devices.{Device, ids, Rising}
 use Rattle.slicing.specs.Runs.{Run, ◌of◌, one, total, owned, count, Coalesced}
-use Rattle.slicing.specs.Validity.{ValidWith, Valid}
+use Rattle.slicing.specs.Validity.{Valid}
 use Rattle.slicing.proofs.Limits.{capacity_size}
 use Rattle.slicing.proofs.ShareRule.{share_of_absent}
 use Rattle.slicing_core.specs.Rows.{at, device_rows, table_rows}
@@ -44,7 +44,7 @@ table_rows_lists x R rs =
 
 -- ---- the numbers of a valid state fit
 
-pub covered : (s : State) {due : List (Run ℕ)} → ValidWith due s → 1 ≤ length s.table → total s.table ≡ s.range
+pub covered : (s : State) → Valid s → 1 ≤ length s.table → total s.table ≡ s.range
 covered s v h = go (length s.devices) refl
   where
     go : (n : ℕ) → length s.devices ≡ n → total s.table ≡ s.range

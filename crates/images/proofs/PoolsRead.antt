@@ -7,11 +7,9 @@ use mathlib.Core.List.{List, [], ◌∷◌, ◌++◌}
 use Prim.Native.Nat.{ℕ, zero, suc, ◌+◌, ◌*◌, ◌-◌, ◌≤◌}
 use native.Mathlib.Omega.{arith}
 use lib.ListN.{length, drop, replicate, length-append, length-replicate}
-use Rattle.pools.specs.Pools.{padded, state_of, pool_of, ValidPoolBy, Zeros, Cleared}
+use Rattle.pools.specs.Pools.{padded, state_of, pool_of, ValidPool, Zeros, Cleared}
 use Rattle.pools.proofs.PoolLaws.{length_table_rows, zeros_padded, pool_of_parts}
-use Rattle.slicing.specs.Runs.{Run}
-use Rattle.slicing.specs.ShareRule.{Rule}
-use Rattle.slicing.specs.Validity.{ValidWith, ValidBy}
+use Rattle.slicing.specs.Validity.{Valid}
 use Rattle.slicing_core.specs.Rows.{at, device_rows, table_rows}
 use Rattle.slicing_core.proofs.Rows.{length_device_rows, at_zeros}
 use Rattle.image_numbers.specs.Format.{head_size, range_in, limit_in, devices_in, intervals_in, ids_in, capacities_in, starts_in, owners_in, column, state_in}
@@ -89,8 +87,8 @@ module _ (xs : List ℕ) where
         table_rows_padded 4096 (starts_in xs) (owners_in xs) (range_in xs) 0 (intervals_in xs),
       )
 
-  pub valid_pool_in : {rule : Rule} → ValidPoolBy rule (pool_in xs) → ValidBy rule (state_in xs)
-  valid_pool_in {rule} v = subst (ValidBy rule) state_of_pool_in v.valid
+  pub valid_pool_in : ValidPool (pool_in xs) → Valid (state_in xs)
+  valid_pool_in v = subst Valid state_of_pool_in v.valid
 
   size : (N k i n : ℕ) → n ≤ N → length (padded N (column xs k i n)) ≡ N
   size N k i n h = length_padded N (column xs k i n) (omega (arith, length_column xs k i n))
@@ -111,7 +109,7 @@ module _ (xs : List ℕ) where
 
   -- ---- bytes that give a valid state
 
-  module _ {due : List (Run ℕ)} (v : ValidWith due (state_in xs)) where
+  module _ (v : Valid (state_in xs)) where
     pub devices_few : devices_in xs ≤ 256
     unfolding state_in
     devices_few = omega (arith, v.few, length_device_rows (ids_in xs) (capacities_in xs) 0 (devices_in xs))
@@ -120,8 +118,8 @@ module _ (xs : List ℕ) where
     unfolding state_in
     intervals_few = omega (arith, v.fits, v.room_most, length_table_rows (starts_in xs) (owners_in xs) (range_in xs) 0 (intervals_in xs))
 
-    held : ValidWith due (state_of (pool_in xs))
-    held = subst (ValidWith due) (sym state_of_pool_in) v
+    held : Valid (state_of (pool_in xs))
+    held = subst Valid (sym state_of_pool_in) v
 
     some : 1 ≤ intervals_in xs → 1 ≤ length (state_of (pool_in xs)).devices
     unfolding state_of pool_in
@@ -146,8 +144,8 @@ module _ (xs : List ℕ) where
         pool_in_cleared.no_ids pool_in_cleared.no_capacities pool_in_cleared.no_starts pool_in_cleared.no_owners
         held.coalesced (λ h. held.covers (some h))
 
+    pub pool_in_valid : ValidPool (pool_in xs)
+    pool_in_valid = record { valid = held; same = same }
+
     pub pool_of_state_in : pool_of (state_in xs) ≡ pool_in xs
     pool_of_state_in = ap pool_of (sym state_of_pool_in) ∙ same
-
-  pub pool_in_valid : (rule : Rule) → ValidBy rule (state_in xs) → ValidPoolBy rule (pool_in xs)
-  pool_in_valid rule v = record { valid = subst (ValidBy rule) (sym state_of_pool_in) v; same = same v }

@@ -18,32 +18,32 @@ use lib.Dec.{ltb}
 use lib.ListN.{length, take, drop, drop_of_length-le}
 use lib.Seq.{take_at}
 use borrow.Author.Tests.{le-ltb}
-use Rattle.pools.specs.Pools.{state_of, pool_of, ValidPoolBy, ValidPool}
+use Rattle.pools.specs.Pools.{state_of, pool_of, ValidPool}
 use Rattle.pools.specs.declared.Pool.{Pool}
 use Rattle.pools.specs.declared.PoolAnswer.{PoolAnswer}
 use Rattle.pools.proofs.PoolLaws.{state_of_pool_of, valid_pool_pool_of}
-use Rattle.image_numbers.specs.Format.{Version, image_of, state_in, ImageBy, Image}
-use Rattle.images.specs.Promises.{refusal, ReadBy, ReadAs, unmarked, versioned, faulty, accepted, WrittenAs}
+use Rattle.image_numbers.specs.Format.{image_of, state_in, Image}
+use Rattle.images.specs.Promises.{refusal, ReadAs, unmarked, versioned, faulty, accepted, WrittenAs}
 use Rattle.images.specs.declared.WriteAnswer.{WriteAnswer}
 use Rattle.images.specs.declared.WriteAnswer.TheVariants.{Written, Refused}
 use Rattle.image_numbers.proofs.ByteNumbers.{Bytes}
 use Rattle.images.proofs.ImageLaws.{image_of_state_in, state_in_image_of, image_image_of, image_of_injective}
 
-pub record Accepted (v : Version) (xs : List ℕ) (r : PoolAnswer) : Type 0 where
-  pub image : ImageBy v xs
+pub record Accepted (xs : List ℕ) (r : PoolAnswer) : Type 0 where
+  pub image : Image xs
   pub pool : r.pool ≡ pool_of (state_in xs)
 
-pub read_accepted : {v : Version} (xs : List ℕ) (r : PoolAnswer) → ReadBy v xs r → r.refusal ≡ 0 → Accepted v xs r
+pub read_accepted : (xs : List ℕ) (r : PoolAnswer) → ReadAs xs r → r.refusal ≡ 0 → Accepted xs r
 read_accepted xs r (unmarked h e) z = absurd (omega (arith, z, ap (λ a. a.refusal) e))
-read_accepted xs r (versioned h w e) z = absurd (omega (arith, z, ap (λ a. a.refusal) e))
-read_accepted xs r (faulty h w s e) z = absurd (omega (arith, z, ap (λ a. a.refusal) e))
+read_accepted xs r (versioned h v e) z = absurd (omega (arith, z, ap (λ a. a.refusal) e))
+read_accepted xs r (faulty h v s e) z = absurd (omega (arith, z, ap (λ a. a.refusal) e))
 read_accepted xs r (accepted i e) z = record { image = i; pool = ap (λ a. a.pool) e }
 
 -- an image is read as its state's pool
-pub image_read : {v : Version} (xs : List ℕ) (r : PoolAnswer) → ReadBy v xs r → ImageBy v xs → r ≡ record { refusal = 0; pool = pool_of (state_in xs) }
+pub image_read : (xs : List ℕ) (r : PoolAnswer) → ReadAs xs r → Image xs → r ≡ record { refusal = 0; pool = pool_of (state_in xs) }
 image_read xs r (unmarked h e) i = absurd (false≢true (sym h ∙ i.first))
-image_read xs r (versioned h w e) i = absurd (w i.second)
-image_read xs r (faulty h w s e) i = absurd (s i.sound)
+image_read xs r (versioned h v e) i = absurd (v i.second)
+image_read xs r (faulty h v s e) i = absurd (s i.sound)
 image_read xs r (accepted j e) i = e
 
 pub image_accepted : (p : Pool) → ValidPool p → (r : PoolAnswer) → ReadAs (image_of (state_of p)) r → r ≡ record { refusal = 0; pool = p }
@@ -51,15 +51,15 @@ image_accepted p v r a =
     image_read (image_of (state_of p)) r a (image_image_of (state_of p) v.valid)
     ∙ ap (λ (q : Pool). record { refusal = 0; pool = q }) (ap pool_of (state_in_image_of (state_of p) v.valid) ∙ v.same)
 
-module _ {v : Version} (xs : List ℕ) (r : PoolAnswer) (a : ReadBy v xs r) (z : r.refusal ≡ 0) where
-  found : Accepted v xs r
+module _ (xs : List ℕ) (r : PoolAnswer) (a : ReadAs xs r) (z : r.refusal ≡ 0) where
+  found : Accepted xs r
   found = read_accepted xs r a z
 
   pub accepted_state : state_of r.pool ≡ state_in xs
   accepted_state = ap state_of found.pool ∙ state_of_pool_of (state_in xs) found.image.sound.valid
 
-  pub accepted_valid : ValidPoolBy v.rule r.pool
-  accepted_valid = subst (ValidPoolBy v.rule) (sym found.pool) (valid_pool_pool_of (state_in xs) found.image.sound.valid)
+  pub accepted_valid : ValidPool r.pool
+  accepted_valid = subst ValidPool (sym found.pool) (valid_pool_pool_of (state_in xs) found.image.sound.valid)
 
 -- the elements of a slice of bytes are below 256
 module _ (xs : List ℕ) (b : Bytes xs) (r : PoolAnswer) (a : ReadAs xs r) (z : r.refusal ≡ 0) where

@@ -1,7 +1,7 @@
 -- What `store` and `write` need: the answer, and the buffer afterwards.
 --
 -- writeReply: write_reply_answer
--- the answer and the buffer: stored_short, stored_whole; write_fits, write_unfit (what the answer says of both)
+-- the answer and the buffer: stored_short, stored_whole
 -- WrittenAs: written_answer (what the answer is says what its reply is), written_valid, written_invalid
 use mathlib.Core.Path.{◌≡◌, refl, ap, ◌∙◌}
 use mathlib.Core.Bool.{Bool, true, false, cond}
@@ -61,18 +61,6 @@ module _ (p : Pool) (v : ValidPool p) where
 
   pub written_valid : (before : List ℕ) (r : WriteAnswer) (after : List ℕ) → Stored before r after → WrittenAs p before r after
   written_valid before r after h = written_answer p before r after (λ k. h) (λ k. absurd (k v))
-
--- the image i, the buffer b before and b' after
-module _ (i b b' : List ℕ) (n : ℕ) where
-  pub write_fits : (u : Bool) → cond u (Refused 17) (Written (length i)) ≡ Written n → b' ≡ cond u b (i ++ drop (length i) b)
-      → (u ≡ false) × (n ≡ length i) × (b' ≡ i ++ drop (length i) b)
-  write_fits true w e = let z : ◌≡◌ {A = ℕ} 0 1 = cc in absurd (omega (arith, z))
-  write_fits false w e = (refl, cc, e)
-
-  pub write_unfit : (u : Bool) → cond u (Refused 17) (Written (length i)) ≡ Refused n → b' ≡ cond u b (i ++ drop (length i) b)
-      → (u ≡ true) × (b' ≡ b)
-  write_unfit true w e = (refl, e)
-  write_unfit false w e = let z : ◌≡◌ {A = ℕ} 0 1 = cc in absurd (omega (arith, z))
 
 pub written_invalid : (p : Pool) → (ValidPool p → ⊥) → (before : List ℕ) → WrittenAs p before (Refused 2) before
 written_invalid p h before = written_answer p before (Refused 2) before (λ k. absurd (h k)) (λ k. (refl, refl))

@@ -2,9 +2,7 @@
 --
 --   refusal n                 the answer of a refused read
 --   answer_of r                the answer in what a read leaves
---   version_by k               the version whose tables are held against the share rule k
---   ReadBy v xs r             r answers the read of the bytes xs as an image of the version v: one of four cases, each with the whole answer
---   ReadAs xs r               the same of the version in force
+--   ReadAs xs r               r answers the read of the bytes xs: one of four cases, each with the whole answer
 --   write_reply r              document 01's number and value of the answer r of a write
 --   write_answer, buffer_after  the answer of a write of a state into a buffer, and the buffer afterwards
 --   WrittenAs p b r a         r answers the write of the pool p into the buffer b, and a is the buffer afterwards
@@ -14,9 +12,7 @@ use Rattle.pools.specs.declared.Pool.{Pool}
 use Rattle.pools.specs.declared.PoolAnswer.{PoolAnswer}
 use Rattle.slicing.specs.Changes.{State, fresh}
 use Rattle.slicing.specs.Replies.{Reply, replied, declined}
-use Rattle.share_rules.specs.declared.ShareRule.{ShareRule}
-use Rattle.share_rules.specs.declared.ShareRule.TheVariants.{InForce, Before}
-use Rattle.image_numbers.specs.Format.{Version, version_one, version_two, current, image_of, version_in, state_in, marked, SoundBy, ImageBy}
+use Rattle.image_numbers.specs.Format.{version, image_of, version_in, state_in, marked, Sound, Image}
 use Rattle.images.specs.declared.reader.ReadAnswer.{ReadAnswer}
 use Rattle.images.specs.declared.WriteAnswer.{WriteAnswer}
 use Rattle.images.specs.declared.WriteAnswer.TheVariants.{Written, Refused}
@@ -28,19 +24,12 @@ refusal n = record { refusal = n; pool = pool_of (fresh 1 1) }
 abbrev pub answer_of : ReadAnswer → PoolAnswer
 answer_of r = record { refusal = r.refusal; pool = r.pool }
 
-abbrev pub version_by : ShareRule → Version
-version_by InForce = version_two
-version_by Before = version_one
-
 -- 'Checks run down the table; the first that applies counts': 14, 15, 16, else the pool
-pub data ReadBy (v : Version) (xs : List ℕ) (r : PoolAnswer) : Type 0 where
-  unmarked : marked xs ≡ false → r ≡ refusal 14 → ReadBy v xs r
-  versioned : marked xs ≡ true → (version_in xs ≡ v.number → ⊥) → r ≡ refusal 15 → ReadBy v xs r
-  faulty : marked xs ≡ true → version_in xs ≡ v.number → (SoundBy v xs → ⊥) → r ≡ refusal 16 → ReadBy v xs r
-  accepted : ImageBy v xs → r ≡ record { refusal = 0; pool = pool_of (state_in xs) } → ReadBy v xs r
-
-abbrev pub ReadAs : List ℕ → PoolAnswer → Type 0
-ReadAs xs r = ReadBy current xs r
+pub data ReadAs (xs : List ℕ) (r : PoolAnswer) : Type 0 where
+  unmarked : marked xs ≡ false → r ≡ refusal 14 → ReadAs xs r
+  versioned : marked xs ≡ true → (version_in xs ≡ version → ⊥) → r ≡ refusal 15 → ReadAs xs r
+  faulty : marked xs ≡ true → version_in xs ≡ version → (Sound xs → ⊥) → r ≡ refusal 16 → ReadAs xs r
+  accepted : Image xs → r ≡ record { refusal = 0; pool = pool_of (state_in xs) } → ReadAs xs r
 
 -- 'For an answer that is an enum, a definition gives this paper's number and values for each case of the enum.'
 abbrev pub write_reply : WriteAnswer → Reply

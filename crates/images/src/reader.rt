@@ -2,22 +2,20 @@
 ghost use Rattle.std.specs.Prelude.{◌≡◌, ◌+◌, ◌*◌, ◌≤◌, length};
 ghost use Rattle.packed_runs.specs.Words.{room};
 ghost use Rattle.opened.specs.OpenPools as OpenPools;
-ghost use Rattle.share_rules.specs.ShareRules.{rule_of};
-ghost use Rattle.opened.specs.OpenPools.{OpenBy};
+ghost use Rattle.opened.specs.OpenPools.{Open};
 ghost use Rattle.pools.specs.Pools.{state_of};
 ghost use Rattle.image_numbers.specs.Format as Format;
 ghost use Rattle.image_numbers.specs.Format.{head_size, devices_in, intervals_in};
-ghost use Rattle.images.specs.Promises.{version_by, ReadBy, ReadAs, refusal, answer_of};
+ghost use Rattle.images.specs.Promises.{ReadAs, refusal, answer_of};
 ghost use Rattle.image_bytes.specs.RowBytes.{pool_in};
 
 use image_bytes::rows::{device_rows, interval_rows};
 use image_numbers::numbers::{number1, number2, number8};
-use image_numbers::{HEAD, MARK, ROW, VERSION, VERSION_ONE};
+use image_numbers::{HEAD, MARK, ROW, VERSION};
 use opened::Opened;
 use opened::making::without_devices;
 use packed_runs::{ROOM, blank};
 use pools::{Pool, PoolAnswer, fresh};
-use share_rules::ShareRule;
 use slicing::{FAULTY, MAX_DEVICES, MAX_INTERVALS, OTHER_VERSION, UNMARKED};
 use valid_pools::open_cleared;
 
@@ -29,16 +27,6 @@ fn marked(image: &[u8]) -> bool
         return false;
     }
     number2(image, 0) * 256 + number1(image, 2) == MARK
-}
-
-// The version whose tables are held against a share rule.
-fn version_of(rule: ShareRule) -> u64
-    ensures { result ≡ (version_by rule).number }
-{
-    match rule {
-        ShareRule::InForce => VERSION,
-        ShareRule::Before => VERSION_ONE,
-    }
 }
 
 // The pool that the bytes of an image give, for n devices and q intervals.
@@ -90,19 +78,18 @@ fn refused(number: u32) -> ReadAnswer
     }
 }
 
-// The pool that an image describes, opened, with its table in an array; the image has the version that stands
-// for the share rule. 14 under 19 bytes or for another mark, 15 for another version, 16 for any other fault;
-// then the pool has R = 1 and M = 1.
-pub fn read_open(image: &[u8], rule: ShareRule, table: &mut [u64; ROOM]) -> ReadAnswer
+// The pool that an image describes, opened, with its table in an array. 14 under 19 bytes or for another
+// mark, 15 for another version, 16 for any other fault; then the pool has R = 1 and M = 1.
+pub fn read_open(image: &[u8], table: &mut [u64; ROOM]) -> ReadAnswer
     requires { length table.old ≡ room }
-    ensures read { ReadBy (version_by rule) image.now (answer_of result) }
-    ensures opened { result.refusal ≡ 0 → OpenBy (rule_of rule) result.opened table.new × (OpenPools.state_in result.opened table.new ≡ state_of result.pool) }
+    ensures read { ReadAs image.now (answer_of result) }
+    ensures opened { result.refusal ≡ 0 → Open result.opened table.new × (OpenPools.state_in result.opened table.new ≡ state_of result.pool) }
     ensures table_len { length table.new ≡ room }
 {
     if !marked(image) {
         return refused(UNMARKED);
     }
-    if number2(image, 3) != version_of(rule) {
+    if number2(image, 3) != VERSION {
         return refused(OTHER_VERSION);
     }
     let n = number2(image, 15) as usize;
@@ -117,7 +104,7 @@ pub fn read_open(image: &[u8], rule: ShareRule, table: &mut [u64; ROOM]) -> Read
         return refused(FAULTY);
     }
     let pool = described(image, n, q);
-    let checked = open_cleared(pool, rule, table);
+    let checked = open_cleared(pool, table);
     if !checked.valid {
         return refused(FAULTY);
     }
@@ -134,7 +121,7 @@ pub fn read(image: &[u8]) -> PoolAnswer
     ensures { ReadAs image.now result }
 {
     let mut table = blank();
-    let made = read_open(image, ShareRule::InForce, &mut table);
+    let made = read_open(image, &mut table);
     let pool = made.pool;
     PoolAnswer {
         refusal: made.refusal,

@@ -1,2 +1,1 @@
-pub mod HalvedRemainders
 pub mod RemainderRows

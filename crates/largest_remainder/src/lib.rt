@@ -1,15 +1,13 @@
 // The share rule before Wish 4: shares by largest remainder, which images of version 1 were written under.
-// Internal: `share_rules` calls it where such an image is converted, and bench/shares measures it.
-mod thresholds;
-
-ghost use Rattle.std.specs.Prelude.{◌≡◌, ◌≤◌, length};
+// Internal: nothing in force calls it, and bench/shares measures against it.
+ghost use Rattle.std.specs.Prelude.{◌≡◌, ◌≤◌, ◌<◌, length};
 ghost use Rattle.slicing.specs.Devices.{Rising};
 ghost use Rattle.slicing.specs.LargestRemainder.{largest_remainder};
 ghost use Rattle.slicing.specs.Limits.{max_range};
 ghost use Rattle.slicing_core.specs.Rows.{rows, device_rows};
 ghost use Rattle.largest_remainder.specs.Remainders.{Remained};
+ghost use Rattle.largest_remainder.specs.Remainders.{rank as rank_of};
 
-use crate::thresholds::{above, threshold};
 use shares::capacities::sum;
 use shares::dues::floors;
 use slicing::MAX_DEVICES;
@@ -35,8 +33,33 @@ fn remainders(
     into
 }
 
-// The share of each of the n devices by largest remainder. Of the rows with the threshold as their remainder
-// the first ones, `ties` of them, get what the rows above it leave: rows stand by rising id.
+// How many devices go before the one at place p where points are left over: those with a larger
+// remainder, and of equal ones those with a lower id.
+fn rank(remainders: &[u64; MAX_DEVICES], ids: &[u64; MAX_DEVICES], n: usize, p: usize) -> u64
+    requires { (n ≤ 256) × (p < n) }
+    ensures { result ≡ rank_of remainders.now ids.now p 0 n }
+{
+    let own = remainders[p];
+    let id = ids[p];
+    let mut before = 0;
+    let mut i = 0;
+    while i < n {
+        let other = remainders[i];
+        if own < other {
+            before += 1;
+        } else {
+            if own == other {
+                if ids[i] < id {
+                    before += 1;
+                }
+            }
+        }
+        i += 1;
+    }
+    before
+}
+
+// The share of each of the n devices by largest remainder.
 pub fn shares(
     range: u64,
     ids: &[u64; MAX_DEVICES],
@@ -48,28 +71,18 @@ pub fn shares(
     ensures result_len { length result ≡ 256 }
 {
     let c = sum(capacities, ids, n);
-    let mut points = [0u64; MAX_DEVICES];
-    let left = floors(&mut points, range, capacities, ids, n, c);
-    let remains = remainders(range, capacities, ids, n, c);
-    let t = threshold(&remains, n, left, c);
-    let ties = left - above(&remains, n, t);
-    let mut tied = 0u64;
+    let mut quotas = [0u64; MAX_DEVICES];
+    let leftover = floors(&mut quotas, range, capacities, ids, n, c);
+    let left = remainders(range, capacities, ids, n, c);
+    let mut into = [0u64; MAX_DEVICES];
     let mut i = 0;
     while i < n {
-        let own = remains[i];
-        let mut more = 0;
-        if t < own {
-            more = 1;
+        if rank(&left, ids, n, i) < leftover {
+            into[i] = quotas[i] + 1;
         } else {
-            if own == t {
-                if tied < ties {
-                    more = 1;
-                }
-                tied += 1;
-            }
+            into[i] = quotas[i];
         }
-        points[i] += more;
         i += 1;
     }
-    points
+    into
 }

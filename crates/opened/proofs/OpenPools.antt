@@ -1,7 +1,7 @@
 -- Laws of opened pools: what the validity of the state gives of the arrays.
 --
 -- devices: open_few, open_rising, open_ascending, open_ids and open_capacities (bounds), open_share (each has its share)
--- intervals: open_length, open_intervals, open_labels, open_points (their total), open_some (none is empty)
+-- intervals: open_length, open_intervals, open_points (their total), open_some (none is empty)
 use mathlib.Core.Path.{◌≡◌, refl, sym, ap, ◌∙◌}
 use mathlib.Core.Bool.{Bool}
 use mathlib.Core.List.{List}
@@ -12,15 +12,16 @@ use native.Mathlib.Omega.{arith}
 use lib.Dec.{eqb}
 use lib.ListN.{length}
 use Rattle.slicing.specs.Devices.{Rising}
-use Rattle.slicing.specs.Runs.{Run, total, owned, relabel, Coalesced}
+use Rattle.slicing.specs.Runs.{total, owned, relabel, Coalesced}
+use Rattle.slicing.specs.ShareRule.{share_of}
 use Rattle.slicing.proofs.Runs.{total_relabel}
 use Rattle.slicing_core.specs.Rows.{at}
 use Rattle.slicing_core.specs.Stages.{Below, Ascending}
 use Rattle.slicing_core.proofs.DeviceRows.{ascending_rising, below_rising, capacities_rising}
 use Rattle.slicing_core.proofs.Rows.{length_device_rows}
-use Rattle.packed_runs.specs.Words.{runs, Labelled}
+use Rattle.packed_runs.specs.Words.{runs}
 use Rattle.opened.specs.declared.Opened.{Opened}
-use Rattle.opened.specs.OpenPools.{devices_in, OpenWith}
+use Rattle.opened.specs.OpenPools.{devices_in, Open}
 use Rattle.opened.proofs.RowNames.{length_relabel, length_runs, named_row, owned_names}
 
 -- runs that are coalesced under any names are not empty
@@ -33,7 +34,7 @@ sizes_from eq f xs i (suc n) c j a b = go (eq-or-lt_of_le a) (λ s. sizes_from e
     go (inl e) ih = rw (← e) c.0
     go (inr s) ih = ih s
 
-module _ {due : List (Run ℕ)} {o : Opened} {table : List ℕ} (h : OpenWith due o table) where
+module _ {o : Opened} {table : List ℕ} (h : Open o table) where
   -- ---- devices
 
   devices_length : length (devices_in o) ≡ o.devices
@@ -54,7 +55,7 @@ module _ {due : List (Run ℕ)} {o : Opened} {table : List ℕ} (h : OpenWith du
   pub open_ascending : Ascending o.ids o.devices
   open_ascending = ascending_rising o.ids o.capacities o.devices open_rising
 
-  pub open_share : (i : ℕ) → i < o.devices → at o.has i ≡ owned (at o.ids i) due
+  pub open_share : (i : ℕ) → i < o.devices → at o.has i ≡ share_of o.range (devices_in o) (at o.ids i)
   open_share i l =
       h.held i l ∙ sym (owned_names o.ids o.devices open_ascending open_ids table o.intervals h.labels i)
       ∙ ap (λ x. owned x (relabel (at o.ids) (runs table 0 o.intervals))) (named_row o.ids o.devices i l)
@@ -67,9 +68,6 @@ module _ {due : List (Run ℕ)} {o : Opened} {table : List ℕ} (h : OpenWith du
 
   pub open_intervals : o.intervals ≤ 4096
   open_intervals = omega (arith, h.valid.fits, h.valid.room_most, open_length)
-
-  pub open_labels : Labelled 256 table o.intervals
-  open_labels j l = omega (arith, h.labels j l, open_few)
 
   pub open_points : total (runs table 0 o.intervals) ≤ 4294967296
   open_points = go o.devices refl

@@ -1,17 +1,14 @@
 -- Opened pools and the rules' state.
 --
---   devices_in o             the devices of an opened pool
---   state_with o t           the state with its numbers and devices, and the table t
---   state_in o table         the state that an opened pool holds, its table in the array
---   OpenWith due o table    that state is valid but that each device has what `due` lists, and what each row has is what the table gives it
---   OpenBy rule o table     the same under a share rule
---   Open o table            the same under the share rule in force
+--   devices_in o          the devices of an opened pool
+--   state_with o t        the state with its numbers and devices, and the table t
+--   state_in o table      the state that an opened pool holds, its table in the array
+--   Open o table         that state is valid, and what each row has is what the table gives it
 use Rattle.std.specs.Prelude.{◌≡◌, List, ℕ, ◌<◌, length}
 use Rattle.slicing.specs.Changes.{State}
 use Rattle.slicing.specs.Devices.{Device}
 use Rattle.slicing.specs.Runs.{Run, owned, relabel}
-use Rattle.slicing.specs.ShareRule.{Rule, shares}
-use Rattle.slicing.specs.Validity.{ValidWith}
+use Rattle.slicing.specs.Validity.{Valid}
 use Rattle.slicing_core.specs.Rows.{at, device_rows}
 use Rattle.packed_runs.specs.Words.{runs, room, Labelled}
 use Rattle.opened.specs.declared.Opened.{Opened}
@@ -25,8 +22,8 @@ state_with o t = record { range = o.range; limit = o.limit; devices = devices_in
 abbrev pub state_in : Opened → List ℕ → State
 state_in o table = state_with o (relabel (at o.ids) (runs table 0 o.intervals))
 
-pub record OpenWith (due : List (Run ℕ)) (o : Opened) (table : List ℕ) : Type 0 where
-  pub valid : ValidWith due (state_in o table)
+pub record Open (o : Opened) (table : List ℕ) : Type 0 where
+  pub valid : Valid (state_in o table)
   pub labels : Labelled o.devices table o.intervals
   -- old shares are what the table gives
   pub held : (i : ℕ) → i < o.devices → at o.has i ≡ owned i (runs table 0 o.intervals)
@@ -34,9 +31,3 @@ pub record OpenWith (due : List (Run ℕ)) (o : Opened) (table : List ℕ) : Typ
   pub capacities_size : length o.capacities ≡ 256
   pub has_size : length o.has ≡ 256
   pub table_size : length table ≡ room
-
-abbrev pub OpenBy : Rule → Opened → List ℕ → Type 0
-OpenBy rule o table = OpenWith (rule o.range (devices_in o)) o table
-
-abbrev pub Open : Opened → List ℕ → Type 0
-Open o table = OpenBy shares o table

@@ -26,11 +26,10 @@ use Rattle.plans.specs.Plans.{Planned}
 use Rattle.plans.specs.declared.Plan.{Plan}
 use Rattle.pools.specs.Pools.{state_of, pool_of, ValidPool}
 use Rattle.pools.specs.declared.Pool.{Pool}
-use Rattle.move_lists.specs.Moves.{move_of, row_of}
-use Rattle.move_lists.specs.declared.Move.{Move}
-use Rattle.placement.specs.Promises.{Answered, Changed, Holds, Drawn}
+use Rattle.placement.specs.Promises.{move_of, row_of, Answered, Changed, Holds, Drawn}
 use Rattle.placement.specs.declared.ChangeAnswer.{ChangeAnswer}
 use Rattle.placement.specs.declared.Draft.{Draft}
+use Rattle.placement.specs.declared.Move.{Move}
 
 -- the moves of an outcome are as many as it says, and fit the list
 module _ (s : State) (v : Valid s) (lent : List Rules.Move) (k : Change) where

@@ -1,3 +1,4 @@
+pub mod Listing
 pub mod Drafts
 pub mod PassedOn
 pub mod Passing

@@ -1,5 +1,6 @@
 -- What the offered changes promise, with their list in its named form.
 --
+--   move_of m, row_of m       a move of the list as the rules' move, and back
 --   Answered ..             the values of an answer, from an outcome of the rules
 --   Changed p lent k r l    r answers the change k on the pool p, and l is the lent list afterwards
 --   Holds o p d             d holds the outcome o of the rules, with the pool p afterwards
@@ -11,10 +12,15 @@ use Rattle.slicing.specs.Changes.{Change, Outcome, refused, change}
 use Rattle.slicing.specs.Claims.{written}
 use Rattle.slicing.specs.SixSteps as Rules
 use Rattle.packed_runs.specs.Words.{room}
-use Rattle.move_lists.specs.Moves.{move_of, row_of}
-use Rattle.move_lists.specs.declared.Move.{Move}
 use Rattle.placement.specs.declared.ChangeAnswer.{ChangeAnswer}
 use Rattle.placement.specs.declared.Draft.{Draft}
+use Rattle.placement.specs.declared.Move.{Move}
+
+abbrev pub move_of : Move → Rules.Move
+move_of m = Rules.move m.start m.length m.from m.to
+
+abbrev pub row_of : Rules.Move → Move
+row_of m = record { start = m.start; length = m.size; from = m.from; to = m.to }
 
 -- 'The call writes the moves, lowest start first, into the list lent to it, and answers their number and the moved points. List places
 -- after them stay.'

@@ -16,7 +16,6 @@ use lib.ListN.{length}
 use borrow.Author.Tests.{eqb-true, ne_eqb, ltb-true, ltb-false}
 use Rattle.slicing.specs.Runs.{Run, one, total, owned, count, relabel}
 use Rattle.slicing.specs.ShareRule.{shares}
-use Rattle.slicing.specs.Validity.{ValidWith}
 use Rattle.slicing.specs.SixSteps.{Turn, turns, new_table, Move, move, moves_from, moves}
 use Rattle.slicing.proofs.Counting.{Distinct}
 use Rattle.slicing.proofs.Runs.{owners, total_relabel, total_owned}
@@ -88,8 +87,8 @@ due_by rs = by_row rs.due 0 rs.count
 abbrev pub turns_by : Opened → Rows → List ℕ → List (Run Turn)
 turns_by o rs work = turns (table_by o work) (has_by rs) (due_by rs)
 
-abbrev pub turns_here : List (Run ℕ) → Opened → Opened → Rows → List ℕ → List (Run Turn)
-turns_here has o e rs work = turns (state_by o rs work).table has (shares o.range (devices_in e))
+abbrev pub turns_here : Opened → Opened → Rows → List ℕ → List (Run Turn)
+turns_here o e rs work = turns (state_by o rs work).table (shares o.range (devices_in o)) (shares o.range (devices_in e))
 
 module _ {o e : Opened} {rs : Rows} {work : List ℕ} (m : Merged o e rs work) where
   pub merged_had : 1 ≤ length (devices_in o)
@@ -160,31 +159,33 @@ module _ {o e : Opened} {rs : Rows} {work : List ℕ} (m : Merged o e rs work) w
   name_table = relabel_named rs.names rs.count m.ascending m.known work o.intervals m.labels
 
   -- the devices have what the rows have
-  name_has : {has : List (Run ℕ)} → ValidWith has (state_by o rs work) → (d : ℕ) → owned (name d) has ≡ owned d (has_by rs)
-  name_has v d =
-      sym (v.held merged_had (name d))
+  name_has : (d : ℕ) → owned (name d) (shares o.range (devices_in o)) ≡ owned d (has_by rs)
+  name_has d =
+      sym (m.valid.held merged_had (name d))
       ∙ owned_names rs.names rs.count m.ascending m.known work o.intervals m.labels d
       ∙ merged_held d
 
   name_due : present (shares o.range (devices_in e)) ≡ present (relabel name (due_by rs))
   name_due = merged_present ∙ ap present (by_row_named rs.names rs.count m.ascending m.known rs.due)
 
+  abbrev here : List (Run ℕ)
+  here = shares o.range (devices_in o)
+
   abbrev there : List (Run ℕ)
   there = shares o.range (devices_in e)
 
   -- what the steps made of the rows: their labels are rows, so that the array of names gives each its id
-  module _ {has : List (Run ℕ)} (v : ValidWith has (state_by o rs work)) {next turned : List ℕ} {r : Done}
-      (d : Stepped (table_by o work) (has_by rs) (due_by rs) rs.count turned next r) where
-    pub named_table : new_table (turns_here has o e rs work) ≡ relabel (at rs.names) (runs next 0 r.intervals)
+  module _ {next turned : List ℕ} {r : Done} (d : Stepped (table_by o work) (has_by rs) (due_by rs) rs.count turned next r) where
+    pub named_table : new_table (turns_here o e rs work) ≡ relabel (at rs.names) (runs next 0 r.intervals)
     named_table =
-        ap (λ t. new_table (turns t has there)) name_table
-        ∙ new_table_rename name name_apart (table_by o work) (has_by rs) (due_by rs) has there (name_has v) name_due
+        ap (λ t. new_table (turns t here there)) name_table
+        ∙ new_table_rename name name_apart (table_by o work) (has_by rs) (due_by rs) here there name_has name_due
         ∙ ap (relabel name) (sym d.renewed)
         ∙ sym (relabel_named rs.names rs.count m.ascending m.known next r.intervals d.labels)
 
-    pub named_moves : moves (turns_here has o e rs work) ≡ map (move_as (at rs.names)) (moves_from 0 (turns_of turned 0 r.turns))
+    pub named_moves : moves (turns_here o e rs work) ≡ map (move_as (at rs.names)) (moves_from 0 (turns_of turned 0 r.turns))
     named_moves =
-        ap (λ t. moves (turns t has there)) name_table
-        ∙ moves_rename name name_apart (table_by o work) (has_by rs) (due_by rs) has there (name_has v) name_due
+        ap (λ t. moves (turns t here there)) name_table
+        ∙ moves_rename name name_apart (table_by o work) (has_by rs) (due_by rs) here there name_has name_due
         ∙ ap (λ t. map (move_as name) (moves_from 0 t)) (sym d.turned)
         ∙ moves_same name (at rs.names) rs.count (named_row rs.names rs.count) turned 0 r.turns 0 (λ j a b. d.owners j (omega arith))

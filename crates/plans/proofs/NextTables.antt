@@ -9,13 +9,11 @@ use mathlib.Core.List.{List}
 use Prim.Native.Nat.{ℕ, ◌%◌, ◌<◌}
 use native.Mathlib.Omega.{arith}
 use lib.Dec.{eqb}
-use Rattle.slicing.specs.Runs.{Run, owned, relabel, Coalesced}
+use Rattle.slicing.specs.Runs.{owned, relabel, Coalesced}
 use Rattle.slicing.specs.ShareRule.{shares}
 use Rattle.slicing.specs.SixSteps.{new, new_table}
-use Rattle.slicing.specs.Validity.{ValidWith}
 use Rattle.slicing.proofs.Changes.{balanced}
-use Rattle.slicing.proofs.Counting.{Distinct}
-use Rattle.slicing.proofs.Runs.{owners, relabel_relabel, relabel_same, coalesced_table}
+use Rattle.slicing.proofs.Runs.{relabel_relabel, relabel_same, coalesced_table}
 use Rattle.slicing.proofs.SixSteps.{owned_new_table}
 use Rattle.slicing_core.specs.Rows.{at}
 use Rattle.slicing_core.proofs.DeviceRows.{ascending_rising, below_rising}
@@ -51,23 +49,22 @@ module _ {o e : Opened} {rs : Rows} {work : List ℕ} (m : Merged o e rs work) {
         m.gone g,
       )
 
-  module _ {has : List (Run ℕ)} (v : ValidWith has (state_by o rs work)) (last : List ℕ)
-      (h : runs last 0 r.intervals ≡ relabel (lowered rs.gone) (runs next 0 r.intervals)) where
-    pub next_table : relabel (at e.ids) (runs last 0 r.intervals) ≡ new_table (turns_here has o e rs work)
+  module _ (last : List ℕ) (h : runs last 0 r.intervals ≡ relabel (lowered rs.gone) (runs next 0 r.intervals)) where
+    pub next_table : relabel (at e.ids) (runs last 0 r.intervals) ≡ new_table (turns_here o e rs work)
     next_table =
         ap (relabel (at e.ids)) h
         ∙ relabel_relabel (lowered rs.gone) (at e.ids) (runs next 0 r.intervals)
         ∙ relabel_runs (λ x. at e.ids (lowered rs.gone x)) (at rs.names) next 0 r.intervals
         (λ j a b. (m.left (at next j % 65536) (d.labels j (omega arith)) (next_stays j (omega arith))).1)
-        ∙ sym (named_table m v d)
+        ∙ sym (named_table m d)
 
     pub next_labels : Labelled e.devices last r.intervals
     next_labels j l =
         rw (label_at (lowered rs.gone) last next 0 r.intervals h j (omega arith) (omega arith))
         (m.left (at next j % 65536) (d.labels j l) (next_stays j l)).0
 
-    pub next_held : Distinct (owners has) → (i : ℕ) → i < e.devices → at e.has i ≡ owned i (runs last 0 r.intervals)
-    next_held once i l =
+    pub next_held : (i : ℕ) → i < e.devices → at e.has i ≡ owned i (runs last 0 r.intervals)
+    next_held i l =
         let ids = e.ids in
         let n = e.devices in
         let rising = ascending_rising ids e.capacities n m.rising in
@@ -77,7 +74,7 @@ module _ {o e : Opened} {rs : Rows} {work : List ℕ} (m : Merged o e rs work) {
         ∙ sym (owned_rows ids n rising known e.has i)
         ∙ ap (owned x) m.shared
         ∙ ap (λ k. owned x (shares k (devices_in e))) m.range
-        ∙ sym (owned_new_table (state_by o rs work).table has (shares o.range (devices_in e))
-        (balanced (state_by o rs work) has once v (merged_had m) (devices_in e) m.rising (merged_some m)) x)
+        ∙ sym (owned_new_table (state_by o rs work).table (shares o.range (devices_in o)) (shares o.range (devices_in e))
+        (balanced (state_by o rs work) m.valid (merged_had m) (devices_in e) m.rising (merged_some m)) x)
         ∙ ap (owned x) (sym next_table)
         ∙ owned_names ids n rising known last r.intervals next_labels i

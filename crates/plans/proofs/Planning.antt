@@ -13,15 +13,13 @@ use native.Mathlib.Omega.{arith}
 use lib.ListN.{length, drop, length-map}
 use lib.Seq.{take-append_seam}
 use borrow.Author.Tests.{lt-ltb, le-ltb}
-use Rattle.slicing.specs.Changes.{State, Outcome, refused, accepted, settle_from}
+use Rattle.slicing.specs.Changes.{State, Outcome, refused, accepted, settle}
 use Rattle.slicing.specs.Claims.{written}
 use Rattle.slicing.specs.Runs.{Run, relabel}
 use Rattle.slicing.specs.ShareRule.{shares}
 use Rattle.slicing.specs.SixSteps.{Turn, new_table, Move, moves_from, moves, points}
-use Rattle.slicing.specs.Validity.{ValidWith, Valid}
+use Rattle.slicing.specs.Validity.{Valid}
 use Rattle.slicing.proofs.Changes.{valid_settled}
-use Rattle.slicing.proofs.Counting.{Distinct}
-use Rattle.slicing.proofs.Runs.{owners}
 use Rattle.slicing_core.specs.Rows.{at}
 use Rattle.slicing_core.proofs.Rows.{length_device_rows}
 use Rattle.packed_runs.specs.Words.{room, runs, turns_of}
@@ -89,56 +87,56 @@ opened_with e q = record {
   intervals = q;
 }
 
-module _ {o e : Opened} {rs : Rows} {work : List ℕ} (m : Merged o e rs work) {has : List (Run ℕ)} (once : Distinct (owners has))
-    (v : ValidWith has (state_by o rs work)) {turned next : List ℕ} {r : Done} (d : Stepped (table_by o work) (has_by rs) (due_by rs) rs.count turned next r) where
-  count_table : length (new_table (turns_here has o e rs work)) ≡ r.intervals
+module _ {o e : Opened} {rs : Rows} {work : List ℕ} (m : Merged o e rs work) {turned next : List ℕ} {r : Done}
+    (d : Stepped (table_by o work) (has_by rs) (due_by rs) rs.count turned next r) where
+  count_table : length (new_table (turns_here o e rs work)) ≡ r.intervals
   count_table =
-      ap length (named_table m v d) ∙ length_relabel (at rs.names) (runs next 0 r.intervals) ∙ length_runs next 0 r.intervals
+      ap length (named_table m d) ∙ length_relabel (at rs.names) (runs next 0 r.intervals) ∙ length_runs next 0 r.intervals
 
-  count_moves : length (moves (turns_here has o e rs work)) ≡ r.count
+  count_moves : length (moves (turns_here o e rs work)) ≡ r.count
   count_moves =
-      ap length (named_moves m v d) ∙ length-map (moves_from 0 (turns_of turned 0 r.turns)) (move_as (at rs.names))
+      ap length (named_moves m d) ∙ length-map (moves_from 0 (turns_of turned 0 r.turns)) (move_as (at rs.names))
       ∙ ap (λ t. length (moves_from 0 t)) d.turned ∙ sym d.count
 
-  points_moves : points (moves (turns_here has o e rs work)) ≡ r.moved
+  points_moves : points (moves (turns_here o e rs work)) ≡ r.moved
   points_moves =
-      ap points (named_moves m v d) ∙ points_rename (at rs.names) (moves_from 0 (turns_of turned 0 r.turns))
+      ap points (named_moves m d) ∙ points_rename (at rs.names) (moves_from 0 (turns_of turned 0 r.turns))
       ∙ ap (λ t. points (moves_from 0 t)) d.turned ∙ sym d.moved
 
-  pub settled_eight : o.limit < r.intervals → (lent : List Move) → settle_from shares (state_by o rs work) lent has (devices_in e) ≡ refused (state_by o rs work) lent 8
-  settled_eight l lent = rw (lt-ltb o.limit (length (new_table (turns_here has o e rs work))) (omega (arith, count_table)))
+  pub settled_eight : o.limit < r.intervals → (lent : List Move) → settle shares (state_by o rs work) lent (devices_in e) ≡ refused (state_by o rs work) lent 8
+  settled_eight l lent = rw (lt-ltb o.limit (length (new_table (turns_here o e rs work))) (omega (arith, count_table)))
 
   module _ (fits : r.intervals ≤ o.limit) where
-    pub settled_nine : (lent : List Move) → length lent < r.count → settle_from shares (state_by o rs work) lent has (devices_in e) ≡ refused (state_by o rs work) lent 9
+    pub settled_nine : (lent : List Move) → length lent < r.count → settle shares (state_by o rs work) lent (devices_in e) ≡ refused (state_by o rs work) lent 9
     settled_nine lent l =
         rw (
-          le-ltb o.limit (length (new_table (turns_here has o e rs work))) (omega (arith, count_table)),
-          lt-ltb (length lent) (length (moves (turns_here has o e rs work))) (omega (arith, count_moves)),
+          le-ltb o.limit (length (new_table (turns_here o e rs work))) (omega (arith, count_table)),
+          lt-ltb (length lent) (length (moves (turns_here o e rs work))) (omega (arith, count_moves)),
         )
 
     pub settled_done : (lent : List Move) → r.count ≤ length lent
-        → settle_from shares (state_by o rs work) lent has (devices_in e)
-        ≡ accepted (state_by o rs work) lent (devices_in e) (new_table (turns_here has o e rs work)) (moves (turns_here has o e rs work))
+        → settle shares (state_by o rs work) lent (devices_in e)
+        ≡ accepted (state_by o rs work) lent (devices_in e) (new_table (turns_here o e rs work)) (moves (turns_here o e rs work))
     settled_done lent l =
         rw (
-          le-ltb o.limit (length (new_table (turns_here has o e rs work))) (omega (arith, count_table)),
-          le-ltb (length lent) (length (moves (turns_here has o e rs work))) (omega (arith, count_moves)),
+          le-ltb o.limit (length (new_table (turns_here o e rs work))) (omega (arith, count_table)),
+          le-ltb (length lent) (length (moves (turns_here o e rs work))) (omega (arith, count_moves)),
         )
 
     -- ---- the pool afterwards
 
     module _ (last : List ℕ) (h : runs last 0 r.intervals ≡ relabel (lowered rs.gone) (runs next 0 r.intervals)) (size : length last ≡ room) where
       state_settled : state_in (opened_with e r.intervals) last
-          ≡ record { range = o.range; limit = o.limit; devices = devices_in e; table = new_table (turns_here has o e rs work) }
-      state_settled = rw (m.range, m.limit, next_table m d v last h)
+          ≡ record { range = o.range; limit = o.limit; devices = devices_in e; table = new_table (turns_here o e rs work) }
+      state_settled = rw (m.range, m.limit, next_table m d last h)
 
       open_settled : Open (opened_with e r.intervals) last
       open_settled = record {
         valid = subst Valid (sym state_settled)
-            (valid_settled (state_by o rs work) has once v (merged_had m) (devices_in e) m.rising (merged_some m)
+            (valid_settled (state_by o rs work) m.valid (merged_had m) (devices_in e) m.rising (merged_some m)
             (omega (arith, m.few_after, length_device_rows e.ids e.capacities 0 e.devices)) (omega (arith, count_table)));
-        labels = next_labels m d v last h;
-        held = next_held m d v last h once;
+        labels = next_labels m d last h;
+        held = next_held m d last h;
         ids_size = m.ids_size;
         capacities_size = m.capacities_size;
         has_size = m.shares_size;
@@ -147,7 +145,7 @@ module _ {o e : Opened} {rs : Rows} {work : List ℕ} (m : Merged o e rs work) {
 
       pub planned_settled : (places : ℕ) (p : Plan) → r.count ≤ places → p.refusal ≡ 0 → p.moved ≡ r.moved → p.count ≡ r.count → p.turns ≡ r.turns
           → p.names ≡ rs.names → p.after ≡ opened_with e r.intervals
-          → Planned (λ lent. settle_from shares (state_by o rs work) lent has (devices_in e)) places o p turned last
+          → Planned (λ lent. settle shares (state_by o rs work) lent (devices_in e)) places o p turned last
       planned_settled places p all er em ec et en ea = record {
         number = λ lent l. er ∙ sym (ap (λ k. k.number) (done lent l));
         moved = λ lent l. em ∙ sym points_moves ∙ sym (ap (λ k. k.moved) (done lent l));
@@ -155,7 +153,7 @@ module _ {o e : Opened} {rs : Rows} {work : List ℕ} (m : Merged o e rs work) {
         moves = λ lent l.
             ap (λ n. map (move_as (at n)) (moves_from 0 (turns_of turned 0 p.turns))) en
             ∙ ap (λ t. map (move_as (at rs.names)) (moves_from 0 (turns_of turned 0 t))) et
-            ∙ sym (named_moves m v d)
+            ∙ sym (named_moves m d)
             ∙ sym (take-append_seam (moves ts) (drop (length (moves ts)) lent))
             ∙ sym (ap written (done lent l));
         most = omega (arith, et, d.most);
@@ -166,8 +164,8 @@ module _ {o e : Opened} {rs : Rows} {work : List ℕ} (m : Merged o e rs work) {
       }
         where
           ts : List (Run Turn)
-          ts = turns_here has o e rs work
+          ts = turns_here o e rs work
 
-          done : (lent : List Move) → length lent ≡ places → settle_from shares (state_by o rs work) lent has (devices_in e)
-              ≡ accepted (state_by o rs work) lent (devices_in e) (new_table (turns_here has o e rs work)) (moves (turns_here has o e rs work))
+          done : (lent : List Move) → length lent ≡ places → settle shares (state_by o rs work) lent (devices_in e)
+              ≡ accepted (state_by o rs work) lent (devices_in e) (new_table (turns_here o e rs work)) (moves (turns_here o e rs work))
           done lent l = settled_done lent (omega arith)

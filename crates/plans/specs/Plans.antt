@@ -2,18 +2,15 @@
 --
 --   Planned outcome places o r work next     r is the plan of a change of the opened pool o, whose outcome the rules give for every
 --                                            lent list of so many places: `work` has its turns, `next` the new table
---   Settled o e rows work places ..          a plan of the change of o to the devices of e, whatever each device is said to have, if it has that
 --   Merged o e rows work                     the rows that take part in the change of o to the devices of e, `work` having their table
 use Rattle.std.specs.Prelude.{◌≡◌, List, map, ℕ, ◌^◌, ◌≤◌, ◌<◌, length}
-use Rattle.slicing.specs.Changes.{State, Outcome, settle_from}
+use Rattle.slicing.specs.Changes.{State, Outcome}
 use Rattle.slicing.specs.Claims.{written}
 use Rattle.slicing.specs.Devices.{Rising}
-use Rattle.slicing.specs.Runs.{Run, total, owned, relabel}
+use Rattle.slicing.specs.Runs.{total, owned, relabel}
 use Rattle.slicing.specs.ShareRule.{shares}
 use Rattle.slicing.specs.SixSteps.{Move, moves_from}
-use Rattle.slicing.specs.Validity.{ValidWith, Wellformed}
-use Rattle.slicing.proofs.Counting.{Distinct}
-use Rattle.slicing.proofs.Runs.{owners}
+use Rattle.slicing.specs.Validity.{Valid}
 use Rattle.slicing_core.specs.Rows.{at, rows}
 use Rattle.slicing_core.specs.Stages.{Below, Ascending}
 use Rattle.packed_runs.specs.Words.{runs, turns_of, by_row, present, room, Labelled}
@@ -43,13 +40,8 @@ pub record Planned (outcome : List Move → Outcome) (places : ℕ) (o : Opened)
 abbrev pub state_by : Opened → Rows → List ℕ → State
 state_by o rs work = state_with o (relabel (at rs.names) (runs work 0 o.intervals))
 
-abbrev pub Settled : Opened → Opened → Rows → List ℕ → ℕ → Plan → List ℕ → List ℕ → Type 0
-Settled o e rs work places r turned next =
-    (has : List (Run ℕ)) → Distinct (owners has) → ValidWith has (state_by o rs work)
-    → Planned (λ lent. settle_from shares (state_by o rs work) lent has (devices_in e)) places o r turned next
-
 pub record Merged (o e : Opened) (rs : Rows) (work : List ℕ) : Type 0 where
-  pub valid : Wellformed (state_by o rs work)
+  pub valid : Valid (state_by o rs work)
   pub had : 1 ≤ o.devices
   -- the rows: their ids rise; the table is theirs, and gives each what it has
   pub few : rs.count ≤ 256

@@ -19,11 +19,8 @@ pub struct Plan {
     pub after: Opened,
 }
 
-// The row of none: where no row comes in, or none goes.
-pub const NO_ROW: usize = 256;
-
 // The rows that take part in a change, those before it and after it: their ids, what each has, what each
-// is to have, and the row that goes, or NO_ROW.
+// is to have, and the row that goes, or 256.
 #[derive(Drop)]
 pub struct Rows {
     pub count: usize,

@@ -1,7 +1,10 @@
 // The six steps on an opened pool, and the checks of their result.
 ghost use Rattle.std.specs.Prelude.{◌≡◌, length};
+ghost use Rattle.slicing.specs.Changes as Changes;
+ghost use Rattle.slicing.specs.ShareRule.{shares};
 ghost use Rattle.packed_runs.specs.Words.{room};
-ghost use Rattle.plans.specs.Plans.{Settled, Merged};
+ghost use Rattle.opened.specs.OpenPools.{devices_in};
+ghost use Rattle.plans.specs.Plans.{Merged, Planned, state_by};
 
 use crate::labels::lower;
 use crate::{Plan, Rows};
@@ -36,7 +39,7 @@ pub fn settle(
     next: &mut [u64; ROOM],
 ) -> Plan
     requires { Merged before after rows work.old × (length work.old ≡ room) × (length next.old ≡ room) }
-    ensures settled { Settled before after rows work.old places result work.new next.new }
+    ensures planned { Planned (λ lent. Changes.settle shares (state_by before rows work.old) lent (devices_in after)) places before result work.new next.new }
     ensures work_len { (length work.new ≡ room) × (length next.new ≡ room) }
 {
     let has = rows.has;

@@ -15,12 +15,11 @@ use lib.Seq.{ext_get_or, get_or-drop, drop-cons, get_or-append-add}
 use Rattle.slicing.specs.Changes.{State}
 use Rattle.slicing.specs.Devices.{Device, ids}
 use Rattle.slicing.specs.Runs.{Run, ◌of◌, intervals, total, Coalesced}
-use Rattle.slicing.specs.ShareRule.{Rule}
-use Rattle.slicing.specs.Validity.{ValidWith, ValidBy}
+use Rattle.slicing.specs.Validity.{Valid}
 use Rattle.slicing_core.specs.Rows.{at, device_rows, table_rows, interval_rows}
 use Rattle.slicing_core.proofs.Rows.{length_device_rows}
 use Rattle.pools.specs.declared.Pool.{Pool}
-use Rattle.pools.specs.Pools.{padded, capacities_of, starts_of, owners_of, state_of, pool_of, ValidPoolBy, Zeros}
+use Rattle.pools.specs.Pools.{padded, capacities_of, starts_of, owners_of, state_of, pool_of, ValidPool, Zeros}
 use Rattle.pools.proofs.PaddedRows.{length_starts_of, length_owners_of}
 
 -- ---- lists
@@ -188,7 +187,7 @@ length_capacities_of (e ∷ ds) = ap suc (length_capacities_of ds)
 from_padded : (N : ℕ) (ys : List ℕ) (n : ℕ) → length ys ≡ n → (j : ℕ) → j < n → at (padded N ys) (0 + j) ≡ at ys j
 from_padded N ys n l j h = ap (at (padded N ys)) (zero-add j) ∙ at_padded N ys j (omega arith)
 
-pub state_of_pool_of : (s : State) {due : List (Run ℕ)} → ValidWith due s → state_of (pool_of s) ≡ s
+pub state_of_pool_of : (s : State) → Valid s → state_of (pool_of s) ≡ s
 unfolding state_of pool_of
 state_of_pool_of s v =
     rw (
@@ -208,5 +207,5 @@ state_of_pool_of s v =
         go zero e = omega (arith, ap length (v.empty e))
         go (suc n) e = omega arith
 
-pub valid_pool_pool_of : {rule : Rule} (s : State) → ValidBy rule s → ValidPoolBy rule (pool_of s)
-valid_pool_pool_of {rule} s v = record { valid = subst (ValidBy rule) (sym (state_of_pool_of s v)) v; same = ap pool_of (state_of_pool_of s v) }
+pub valid_pool_pool_of : (s : State) → Valid s → ValidPool (pool_of s)
+valid_pool_pool_of s v = record { valid = subst Valid (sym (state_of_pool_of s v)) v; same = ap pool_of (state_of_pool_of s v) }

@@ -12,18 +12,18 @@ use lib.ListN.{length}
 use borrow.Author.Tests.{eqb-true}
 use Rattle.slicing.specs.Devices.{Device, ids, Rising}
 use Rattle.slicing.specs.Runs.{Run, one, total, owned, count, expand, Coalesced}
-use Rattle.slicing.specs.ShareRule.{Rule}
-use Rattle.slicing.proofs.Lawful.{Lawful, lawful_distinct}
+use Rattle.slicing.specs.ShareRule.{shares, share_of}
 use Rattle.slicing.proofs.Least.{rival_count}
 use Rattle.slicing.proofs.Runs.{owners, length_expand, count_expand}
+use Rattle.slicing.proofs.ShareRule.{total_shares, owners_shares, shares_distinct}
 use Rattle.slicing_core.specs.Rows.{at, device_rows, table_rows}
 use Rattle.slicing_core.proofs.Rows.{length_device_rows}
 use Rattle.pools.specs.declared.Pool.{Pool}
-use Rattle.pools.specs.Pools.{state_of, pool_of, padded, starts_of, owners_of, capacities_of, ValidPoolBy, Zeros, Limited, Cleared, Covered}
+use Rattle.pools.specs.Pools.{state_of, pool_of, padded, starts_of, owners_of, capacities_of, ValidPool, Zeros, Limited, Cleared, Covered}
 use Rattle.pools.proofs.PaddedRows.{length_starts_of, length_owners_of}
 use Rattle.pools.proofs.PoolLaws.{length_table_rows, zeros_padded, length_ids, length_capacities_of, pool_of_parts}
 
-module _ {rule : Rule} (p : Pool) (v : ValidPoolBy rule p) where
+module _ (p : Pool) (v : ValidPool p) where
   some_devices : 1 ≤ p.devices → 1 ≤ length (state_of p).devices
   unfolding state_of
   some_devices h = omega (arith, length_device_rows p.ids p.capacities 0 p.devices)
@@ -77,7 +77,7 @@ module _ {rule : Rule} (p : Pool) (v : ValidPoolBy rule p) where
         length_table_rows p.starts p.owners p.range 0 p.intervals,
       )
 
-  pub valid_covered : 1 ≤ p.devices → Covered rule p.range p.ids p.capacities p.devices p.starts p.owners p.intervals
+  pub valid_covered : 1 ≤ p.devices → Covered p.range p.ids p.capacities p.devices p.starts p.owners p.intervals
   unfolding state_of
   valid_covered h = record {
     coalesced = v.valid.coalesced;
@@ -114,12 +114,12 @@ listed xs cs i (suc n) d h = go (eqb d (at xs i)) refl (λ k. listed xs cs (suc 
         let r : Listed xs (suc i) n d = ih (omega (arith, h, ap one e)) in
         record { row = r.row; first = omega (arith, r.first); last = omega (arith, r.last); here = r.here }
 
-pub parts_valid : {rule : Rule} → Lawful rule → (p : Pool) → length p.ids ≡ 256 → length p.capacities ≡ 256 → length p.starts ≡ 4096 → length p.owners ≡ 4096
+pub parts_valid : (p : Pool) → length p.ids ≡ 256 → length p.capacities ≡ 256 → length p.starts ≡ 4096 → length p.owners ≡ 4096
     → Limited p → Rising 0 (device_rows p.ids p.capacities 0 p.devices)
     → Cleared p → (p.devices ≡ 0 → p.intervals ≡ 0)
-    → (1 ≤ p.devices → Covered rule p.range p.ids p.capacities p.devices p.starts p.owners p.intervals) → ValidPoolBy rule p
+    → (1 ≤ p.devices → Covered p.range p.ids p.capacities p.devices p.starts p.owners p.intervals) → ValidPool p
 unfolding state_of
-parts_valid {rule} w p li lc ls lo m r z e c = record {
+parts_valid p li lc ls lo m r z e c = record {
   valid = record {
     some = m.some;
     most = m.most;
@@ -165,14 +165,14 @@ parts_valid {rule} w p li lc ls lo m r z e c = record {
         go zero x = subst (λ (i : ℕ). Coalesced eqb (table_rows p.starts p.owners p.range 0 i)) (sym (e x)) tt
         go (suc k) x = (c (omega arith)).coalesced
 
-    held : 1 ≤ p.devices → (d : ℕ) → owned d rs ≡ owned d (rule p.range ds)
+    held : 1 ≤ p.devices → (d : ℕ) → owned d rs ≡ share_of p.range ds d
     held h d =
         sym (count_expand d rs)
-        ∙ rival_count (rule p.range ds) (expand rs) (lawful_distinct w p.range ds r)
-        (length_expand rs ∙ (c h).covers ∙ sym (w.whole p.range ds r (omega (arith, n)))) each d
+        ∙ rival_count (shares p.range ds) (expand rs) (shares_distinct p.range ds r)
+        (length_expand rs ∙ (c h).covers ∙ sym (total_shares p.range ds r (omega (arith, n)))) each d
       where
-        each : (f : ℕ) → 1 ≤ count f (owners (rule p.range ds)) → count f (expand rs) ≡ owned f (rule p.range ds)
+        each : (f : ℕ) → 1 ≤ count f (owners (shares p.range ds)) → count f (expand rs) ≡ owned f (shares p.range ds)
         each f k =
             let i : Listed p.ids 0 p.devices f =
-            listed p.ids p.capacities 0 p.devices f (omega (arith, ap (count f) (w.each p.range ds))) in
-            count_expand f rs ∙ subst (λ (g : ℕ). owned g rs ≡ owned g (rule p.range ds)) i.here ((c h).held i.row (omega (arith, i.last)))
+            listed p.ids p.capacities 0 p.devices f (omega (arith, ap (count f) (owners_shares p.range ds))) in
+            count_expand f rs ∙ subst (λ (g : ℕ). owned g rs ≡ share_of p.range ds g) i.here ((c h).held i.row (omega (arith, i.last)))

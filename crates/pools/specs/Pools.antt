@@ -1,19 +1,18 @@
 -- The struct Pool and the rules' state.
 --
---   padded n xs           xs and zeros up to n places
---   starts_of p rs         the starts of the intervals, the first at point p
---   owners_of rs           their owners
---   state_of p             the state that a pool holds
---   pool_of s              the pool that holds a state, unused places 0
---   ValidPoolBy rule p    p holds a state that is valid under a share rule, and nothing else
---   ValidPool p           p holds a valid state, and nothing else
+--   padded n xs        xs and zeros up to n places
+--   starts_of p rs      the starts of the intervals, the first at point p
+--   owners_of rs        their owners
+--   state_of p          the state that a pool holds
+--   pool_of s           the pool that holds a state, unused places 0
+--   ValidPool p        p holds a valid state, and nothing else
 use Rattle.std.specs.Prelude.{◌≡◌, List, [], ◌∷◌, ◌++◌, ℕ, ◌+◌, ◌-◌, ◌≤◌, ◌<◌, eqb, length, replicate}
 use Rattle.slicing.specs.Changes.{State}
 use Rattle.slicing.specs.Devices.{Device, ids, Rising}
 use Rattle.slicing.specs.Limits.{max_range, max_limit, max_devices}
 use Rattle.slicing.specs.Runs.{Run, ◌of◌, total, owned, Coalesced}
-use Rattle.slicing.specs.ShareRule.{Rule, shares}
-use Rattle.slicing.specs.Validity.{ValidBy}
+use Rattle.slicing.specs.ShareRule.{share_of}
+use Rattle.slicing.specs.Validity.{Valid}
 use Rattle.slicing_core.specs.Rows.{at, device_rows, table_rows}
 use Rattle.pools.specs.declared.Pool.{Pool}
 
@@ -52,12 +51,9 @@ pool_of s = record {
   owners = padded 4096 (owners_of s.table);
 }
 
-pub record ValidPoolBy (rule : Rule) (p : Pool) : Type 0 where
-  pub valid : ValidBy rule (state_of p)
+pub record ValidPool (p : Pool) : Type 0 where
+  pub valid : Valid (state_of p)
   pub same : pool_of (state_of p) ≡ p
-
-abbrev pub ValidPool : Pool → Type 0
-ValidPool p = ValidPoolBy shares p
 
 -- all from place n on are 0
 abbrev pub Zeros : List ℕ → ℕ → Type 0
@@ -86,8 +82,7 @@ pub record Formed (p : Pool) : Type 0 where
   pub cleared : Cleared p
   pub empty : p.devices ≡ 0 → p.intervals ≡ 0
 
--- the intervals cover the range, and give each row its share of a rule
-pub record Covered (rule : Rule) (R : ℕ) (ids capacities : List ℕ) (n : ℕ) (starts owners : List ℕ) (q : ℕ) : Type 0 where
+pub record Covered (R : ℕ) (ids capacities : List ℕ) (n : ℕ) (starts owners : List ℕ) (q : ℕ) : Type 0 where
   pub coalesced : Coalesced eqb (table_rows starts owners R 0 q)
   pub covers : total (table_rows starts owners R 0 q) ≡ R
-  pub held : (i : ℕ) → i < n → owned (at ids i) (table_rows starts owners R 0 q) ≡ owned (at ids i) (rule R (device_rows ids capacities 0 n))
+  pub held : (i : ℕ) → i < n → owned (at ids i) (table_rows starts owners R 0 q) ≡ share_of R (device_rows ids capacities 0 n) (at ids i)

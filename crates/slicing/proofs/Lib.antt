@@ -1,5 +1,4 @@
 pub mod Counting
-pub mod Validity
 pub mod Limits
 pub mod Runs
 pub mod Intervals
@@ -13,7 +12,6 @@ pub mod Settled
 pub mod LowerQuota
 pub mod Monotone
 pub mod ShareRule
-pub mod Lawful
 pub mod Computing
 pub mod Differences
 pub mod Reports
@@ -26,7 +24,6 @@ pub mod Least
 pub mod Crossing
 pub mod Changes
 pub mod Claims
-pub mod Conversions
 pub mod Directions
 pub mod Cases
 pub mod Vectors

@@ -10,7 +10,6 @@ pub mod ShareRule
 pub mod Reports
 pub mod SixSteps
 pub mod Changes
-pub mod Conversions
 pub mod Validity
 pub mod Ledger
 pub mod Claims

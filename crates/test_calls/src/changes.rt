@@ -4,13 +4,12 @@ ghost use Rattle.std.specs.Prelude.{◌≤◌};
 use crate::words::{Parsed, is, number, word};
 use crate::{Outcome, pool_images};
 use calls::Call;
-use move_lists::Move;
-use placement::ChangeAnswer;
+use placement::{ChangeAnswer, Move};
 use pools::Pool;
 use test_text::{end_line, first, least, space, spaced, wide32};
 
 // The most places that are lent.
-pub const PLACES: usize = 8448;
+const PLACES: usize = 8448;
 
 // Each number of the list before a change.
 const BLANK: u64 = 7;
@@ -78,7 +77,7 @@ fn one_move(step: Move) {
 }
 
 // The first n moves of a list.
-pub fn moves(list: [Move; PLACES], n: usize)
+fn moves(list: [Move; PLACES], n: usize)
     requires { n ≤ 8448 }
 {
     let mut i = 0;

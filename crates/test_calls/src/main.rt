@@ -15,8 +15,6 @@
 //   add POOL ID CAPACITY PLACES          refusal, moved points, number of moves, the pool afterwards, then
 //   remove POOL ID PLACES                start, length, old and new owner of each move
 //   resize POOL ID CAPACITY PLACES
-//   convert BYTES SIZE PLACES            refusal, length, moved points, number of moves, the buffer afterwards, each
-//                                        byte aa before, then the moves as of a change
 //   read BYTES                           refusal, the pool made
 //   write POOL SIZE                      refusal, length, the buffer afterwards, each byte aa before
 //   reread POOL                          as `write POOL 32768`, but the digest of the buffer; then a read of
@@ -49,7 +47,6 @@ use pools::Pool;
 use test_text::{Input, PIECE, within};
 
 mod changes;
-mod convert_lines;
 mod image_lines;
 mod lookup_lines;
 mod pool_images;
@@ -129,9 +126,6 @@ fn bytes_line(line: &[u8], bytes: &mut [u8]) -> bool {
     if is(line, b"read", 1) {
         printing::made(images::read(bytes));
         return true;
-    }
-    if is(line, b"convert", 3) {
-        return convert_lines::run(bytes, line);
     }
     if is(line, b"single", 1) {
         single_bytes::run(&mut *bytes);

@@ -1,5 +1,5 @@
--- What a call on a list of its own promises, from the list that was lent and the list that came back.
---     lent_front          what holds of the list that was lent and the one that came back holds of blank places and the first of the whole list afterwards
+-- What a change on a list of its own promises, from the list that was lent and the list that came back.
+--     lends_front_of      the list afterwards is what came back, and the places that were not lent
 --     lends_called        a call is the change that it asks for
 use mathlib.Core.Path.{◌≡◌, sym, ◌∙◌, ap, subst}
 use Prim.Native.Nat.{ℕ, ◌≤◌, min}
@@ -8,10 +8,13 @@ use mathlib.Core.List.{List, ◌++◌}
 use lib.ListN.{length, take, drop}
 use lib.Seq.{length-take-le, take-append_seam}
 use Rattle.calls.specs.declared.Call.{Call}
+use Rattle.placement.specs.declared.ChangeAnswer.{ChangeAnswer}
 use Rattle.pools.specs.declared.Pool.{Pool}
 use Rattle.calls.specs.Calls.{change_of}
+use Rattle.slicing.specs.Changes.{Change}
 use Rattle.packed_runs.specs.Words.{room}
-use Rattle.move_lists.specs.declared.Move.{Move}
+use Rattle.placement.specs.Promises.{Changed}
+use Rattle.placement.specs.declared.Move.{Move}
 use Rattle.test_lent_lists.specs.Promises.{blanks, Lends}
 use Rattle.test_lent_lists.specs.declared.Lent.{Lent}
 
@@ -19,12 +22,19 @@ use Rattle.test_lent_lists.specs.declared.Lent.{Lent}
 first_part : (n : ℕ) (xs zs : List Move) → n ≤ length xs → length zs ≡ length (take n xs) → take n (zs ++ drop n xs) ≡ zs
 first_part n xs zs h l = ap (λ (j : ℕ). take j (zs ++ drop n xs)) (sym (l ∙ length-take-le n xs h)) ∙ take-append_seam zs (drop n xs)
 
-pub lent_front : (P : List Move → List Move → Type 0) (places n : ℕ) (xs zs : List Move) → xs ≡ blanks → n ≡ min places room → length xs ≡ room → length zs ≡ length (take n xs)
-    → P (take n xs) zs → P (take (min places room) blanks) (take (min places room) (zs ++ drop n xs))
-lent_front P places n xs zs blank count size l right =
-    subst (λ (j : ℕ). P (take j blanks) (take j (zs ++ drop n xs))) count
-    (subst (λ (ys : List Move). P (take n ys) (take n (zs ++ drop n xs))) blank
-    (subst (P (take n xs)) (sym (first_part n xs zs (subst (λ (j : ℕ). n ≤ j) (sym size) (subst (λ (j : ℕ). j ≤ room) (sym count) (min-le_right places room))) l)) right))
+at_count : (p : Pool) (k : Change) (m n : ℕ) (q : Lent) (xs zs : List Move) → n ≡ m → n ≤ length xs → q.list ≡ zs ++ drop n xs → length zs ≡ length (take n xs)
+    → Changed p (take n xs) k q.answer zs → Changed p (take m xs) k q.answer (take m q.list)
+at_count p k m n q xs zs e h list l right =
+    subst (λ (j : ℕ). Changed p (take j xs) k q.answer (take j q.list)) e
+    (subst (Changed p (take n xs) k q.answer) (sym (first_part n xs zs h l) ∙ ap (take n) (sym list)) right)
+
+pub lends_front_of : (p : Pool) (k : Change) (places n : ℕ) (q : Lent) (xs zs : List Move) (r : ChangeAnswer) → xs ≡ blanks → n ≡ min places room → length xs ≡ room
+    → (q.answer ≡ r) × (q.list ≡ zs ++ drop n xs) → length zs ≡ length (take n xs) → Changed p (take n xs) k r zs → Lends p k places q
+lends_front_of p k places n q xs zs r blank count size e l right = record {
+  changed = subst (λ (ys : List Move). Changed p (take (min places room) ys) k q.answer (take (min places room) q.list)) blank
+      (at_count p k (min places room) n q xs zs count (subst (λ (j : ℕ). n ≤ j) (sym size) (subst (λ (j : ℕ). j ≤ room) (sym count) (min-le_right places room))) e.1 l
+      (subst (λ (a : ChangeAnswer). Changed p (take n xs) k a zs) (sym e.0) right));
+}
 
 pub lends_called : (p : Pool) (c k : Call) (places : ℕ) (r : Lent) → c ≡ k → Lends p (change_of k) places r → Lends p (change_of c) places r
 lends_called p c k places r e h = subst (λ x. Lends p (change_of x) places r) (sym e) h

@@ -1,4 +1,3 @@
 pub mod FrontLent
 pub mod Afterwards
-pub mod Loans
 pub mod Lending

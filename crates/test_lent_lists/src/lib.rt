@@ -1,29 +1,19 @@
-// The offered changes and the offered conversion, each on a list of its own, which is given back by value.
-// For test programs.
+// The offered changes, each on a list of its own, which is given back by value. For test programs.
 ghost use Rattle.std.specs.Prelude.{◌≡◌, min};
 ghost use Rattle.slicing.specs.Changes as Changes;
 ghost use Rattle.packed_runs.specs.Words.{room};
 ghost use Rattle.calls.specs.Calls.{change_of};
-ghost use Rattle.test_lent_lists.specs.Promises.{blanks, Lends, LendsConversion};
+ghost use Rattle.test_lent_lists.specs.Promises.{blanks, Lends};
 
 use calls::Call;
-use conversions::ConvertAnswer;
-use move_lists::Move;
 use packed_runs::ROOM;
-use placement::ChangeAnswer;
+use placement::{ChangeAnswer, Move};
 use pools::Pool;
 
 // An answer, and the list afterwards: the places that were lent, and blank ones after them.
 #[derive(Drop)]
 pub struct Lent {
     pub answer: ChangeAnswer,
-    pub list: [Move; ROOM],
-}
-
-// The same of a conversion.
-#[derive(Drop)]
-pub struct LentConversion {
-    pub answer: ConvertAnswer,
     pub list: [Move; ROOM],
 }
 
@@ -49,13 +39,19 @@ fn places_lent(places: usize) -> usize
     ROOM
 }
 
+fn both(answer: ChangeAnswer, list: [Move; ROOM]) -> Lent
+    ensures { (result.answer ≡ answer) × (result.list ≡ list) }
+{
+    Lent { answer, list }
+}
+
 fn add(pool: Pool, id: u64, capacity: u64, places: usize) -> Lent
     ensures { Lends pool (Changes.add id capacity) places result }
 {
     let mut list = blank();
     let n = places_lent(places);
     let answer = placement::add(pool, id, capacity, &mut list[..n]);
-    Lent { answer, list }
+    both(answer, list)
 }
 
 // It has a capacity, which it does not use, so that the three have one proof.
@@ -65,7 +61,7 @@ fn remove(pool: Pool, id: u64, capacity: u64, places: usize) -> Lent
     let mut list = blank();
     let n = places_lent(places);
     let answer = placement::remove(pool, id, &mut list[..n]);
-    Lent { answer, list }
+    both(answer, list)
 }
 
 fn resize(pool: Pool, id: u64, capacity: u64, places: usize) -> Lent
@@ -74,7 +70,7 @@ fn resize(pool: Pool, id: u64, capacity: u64, places: usize) -> Lent
     let mut list = blank();
     let n = places_lent(places);
     let answer = placement::resize(pool, id, capacity, &mut list[..n]);
-    Lent { answer, list }
+    both(answer, list)
 }
 
 // Changes a pool, with a list of so many places, or of ROOM where more are asked for.
@@ -86,14 +82,4 @@ pub fn changed(pool: Pool, call: Call, places: usize) -> Lent
         Call::Remove(id) => remove(pool, id, 0, places),
         Call::Resize(id, capacity) => resize(pool, id, capacity, places),
     }
-}
-
-// Converts an image into the buffer, with a list of so many places, or of ROOM where more are asked for.
-pub fn converted(image: &[u8], buffer: &mut [u8], places: usize) -> LentConversion
-    ensures { LendsConversion image.now buffer.old places result buffer.new }
-{
-    let mut list = blank();
-    let n = places_lent(places);
-    let answer = conversions::convert(image, buffer, &mut list[..n]);
-    LentConversion { answer, list }
 }

@@ -2,9 +2,8 @@
 ghost use Rattle.std.specs.Prelude.{◌≡◌, true, length};
 ghost use Rattle.slicing_core.specs.Stages.{Decides};
 ghost use Rattle.packed_runs.specs.Words.{room};
-ghost use Rattle.share_rules.specs.ShareRules.{rule_of};
-ghost use Rattle.opened.specs.OpenPools.{state_in, OpenBy, Open};
-ghost use Rattle.pools.specs.Pools.{state_of, ValidPoolBy, ValidPool, Cleared};
+ghost use Rattle.opened.specs.OpenPools.{state_in, Open};
+ghost use Rattle.pools.specs.Pools.{state_of, ValidPool, Cleared};
 ghost use Rattle.valid_pools.specs.Opening.{Widened, Entered};
 
 use opened::Opened;
@@ -12,7 +11,7 @@ use packed_runs::{ROOM, blank};
 use pool_checks::checking::{cleared, formed};
 use pool_checks::tables::dealt;
 use pools::Pool;
-use share_rules::{ShareRule, shares_by};
+use shares::shares;
 use slicing::MAX_DEVICES;
 
 // Whether a pool is valid, and the pool opened where it is.
@@ -62,12 +61,12 @@ fn entered(pool: Pool) -> Opened
     }
 }
 
-// Decides whether a pool whose unused places are 0 is valid under a share rule, and opens it: each of its devices
-// has what its table gives, and that is its share.
-pub fn open_cleared(pool: Pool, rule: ShareRule, table: &mut [u64; ROOM]) -> Checked
+// Decides whether a pool whose unused places are 0 is valid, and opens it: each of its devices has what its
+// table gives, and that is its share.
+pub fn open_cleared(pool: Pool, table: &mut [u64; ROOM]) -> Checked
     requires { Cleared pool × (length table.old ≡ room) }
-    ensures valid { Decides result.valid (ValidPoolBy (rule_of rule) pool) }
-    ensures opened { result.valid ≡ true → OpenBy (rule_of rule) result.opened table.new × (state_in result.opened table.new ≡ state_of pool) }
+    ensures valid { Decides result.valid (ValidPool pool) }
+    ensures opened { result.valid ≡ true → Open result.opened table.new × (state_in result.opened table.new ≡ state_of pool) }
     ensures table_len { length table.new ≡ room }
 {
     let n = pool.devices;
@@ -89,7 +88,7 @@ pub fn open_cleared(pool: Pool, rule: ShareRule, table: &mut [u64; ROOM]) -> Che
             opened: opened,
         };
     }
-    let due = shares_by(rule, pool.range, &ids, &capacities, n);
+    let due = shares(pool.range, &ids, &capacities, n);
     let found = dealt(&starts, &owners, q, pool.range, &ids, n, &due, table);
     let has = found.has;
     opened.has = has;
@@ -112,7 +111,7 @@ pub fn open(pool: Pool, table: &mut [u64; ROOM]) -> Checked
             opened: entered(pool),
         };
     }
-    open_cleared(pool, ShareRule::InForce, table)
+    open_cleared(pool, table)
 }
 
 // Whether a pool holds a valid state, and nothing else.

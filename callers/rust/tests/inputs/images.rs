@@ -2,12 +2,12 @@
 
 use super::pools::{alternating, composed};
 use super::Random;
-use crate::reference::image::{self, Format};
+use crate::reference::image;
 use crate::reference::pool::{Device, Interval, Pool, CAPACITY_MOST, LIMIT_MOST, RANGE_MOST};
 
 /// The image of a pool, damaged in one of many ways.
-pub fn damaged(random: &mut Random, format: Format, pool: &Pool) -> Vec<u8> {
-    let mut bytes = image::write_as(format, pool);
+pub fn damaged(random: &mut Random, pool: &Pool) -> Vec<u8> {
+    let mut bytes = image::write(pool);
     match random.below(14) {
         0 | 1 => {
             let place = random.index(bytes.len());
@@ -29,8 +29,7 @@ pub fn damaged(random: &mut Random, format: Format, pool: &Pool) -> Vec<u8> {
             bytes.extend(random.bytes(count));
         }
         6 => {
-            let versions = [0, 1, 2, 3, 256, 257, 513, 65_535];
-            put_version(&mut bytes, random.pick(&versions));
+            bytes[3..5].copy_from_slice(&random.pick(&[[0, 0], [0, 1], [0, 3], [1, 0], [2, 1], [255, 255]]));
         }
         7 => {
             let length = random.index(100);
@@ -39,8 +38,7 @@ pub fn damaged(random: &mut Random, format: Format, pool: &Pool) -> Vec<u8> {
         8 => {
             let length = 5 + random.index(100);
             bytes = random.bytes(length);
-            bytes[..3].copy_from_slice(image::MARK);
-            put_version(&mut bytes, format.version);
+            bytes[..5].copy_from_slice(b"RSL\0\x02");
         }
         9 => {
             // Counts that do not go with the length, or that trade devices for intervals.
@@ -51,13 +49,9 @@ pub fn damaged(random: &mut Random, format: Format, pool: &Pool) -> Vec<u8> {
                 add_at(&mut bytes, 32 - place, 65_536 - more);
             }
         }
-        _ => bytes = image::write_as(format, &faulty(random, format, pool)),
+        _ => bytes = image::write(&faulty(random, pool)),
     }
     bytes
-}
-
-pub fn put_version(bytes: &mut [u8], version: u64) {
-    bytes[3..5].copy_from_slice(&version.to_be_bytes()[6..]);
 }
 
 fn add_at(bytes: &mut [u8], place: usize, more: u64) {
@@ -66,7 +60,7 @@ fn add_at(bytes: &mut [u8], place: usize, more: u64) {
 }
 
 /// A pool with one thing changed that a rule is about.
-fn faulty(random: &mut Random, format: Format, pool: &Pool) -> Pool {
+fn faulty(random: &mut Random, pool: &Pool) -> Pool {
     let mut pool = pool.clone();
     if pool.devices.is_empty() {
         match random.below(4) {
@@ -131,7 +125,7 @@ fn faulty(random: &mut Random, format: Format, pool: &Pool) -> Pool {
         }
         20 => pool.table[interval].start = random.pick(&[pool.range - 1, pool.range, pool.range + 1]),
         // Right but for 257 devices, or for 4,097 intervals.
-        _ if random.one_in(2) => pool = composed(random, format.rule, 257),
+        _ if random.one_in(2) => pool = composed(random, 257),
         _ => {
             pool = alternating(LIMIT_MOST + 1);
             pool.limit -= random.below(2);

@@ -4,8 +4,7 @@ use std::collections::BTreeMap;
 
 use super::Random;
 use crate::reference::pool::{
-    largest_remainder, shares, Device, Interval, Pool, Rule, CAPACITY_MOST, DEVICES_MOST, ID_MOST,
-    LIMIT_MOST, RANGE_MOST,
+    shares, Device, Interval, Pool, CAPACITY_MOST, DEVICES_MOST, ID_MOST, LIMIT_MOST, RANGE_MOST,
 };
 
 pub fn range(random: &mut Random) -> u64 {
@@ -151,21 +150,17 @@ fn odd_capacity(random: &mut Random, capacity: u64) -> u64 {
     }
 }
 
-/// A pool of any table that the rules allow, under a share rule and with as many devices.
-pub fn composed(random: &mut Random, rule: Rule, count: usize) -> Pool {
+/// A pool of any table that the rules allow, with as many devices.
+pub fn composed(random: &mut Random, count: usize) -> Pool {
     let sizes = random.pick(&SIZES);
     let range = range(random);
-    composed_in(random, range, sizes, rule, count)
-}
-
-fn composed_in(random: &mut Random, range: u64, sizes: Sizes, rule: Rule, count: usize) -> Pool {
     let id_most = random.pick(&[300, ID_MOST]);
     let mut by_id = BTreeMap::new();
     while by_id.len() < count {
         by_id.insert(random.between(1, id_most), sizes.capacity(random));
     }
     let devices: Vec<Device> = by_id.into_iter().map(|(id, capacity)| Device { id, capacity }).collect();
-    let table = pieces(random, &devices, &rule(range, &devices));
+    let table = pieces(random, &devices, &shares(range, &devices));
     let intervals = table.len() as u64;
     let limit = match random.below(3) {
         0 => intervals.max(1),
@@ -214,7 +209,7 @@ pub fn swept(random: &mut Random) -> (Pool, Change) {
 pub fn by_both_rules(random: &mut Random) -> (Pool, Pool) {
     loop {
         let count = random.pick(&[2, 3, 4, 6, 12, 60, 256]);
-        let pool = Pool { limit: LIMIT_MOST, ..composed(random, shares, count) };
+        let pool = Pool { limit: LIMIT_MOST, ..composed(random, count) };
         let before = largest_remainder(pool.range, &pool.devices);
         if before != shares(pool.range, &pool.devices) {
             let table = pieces(random, &pool.devices, &before);
@@ -223,45 +218,21 @@ pub fn by_both_rules(random: &mut Random) -> (Pool, Pool) {
     }
 }
 
-/// A pool with the shares of before Wish 4: one that a list of changes of that time led to, or one of any table, also at
-/// the limits of range and capacities. Most are such that a conversion changes them, and often the limit is such that the
-/// new table has just room, or not quite.
-pub fn of_before(random: &mut Random) -> Pool {
-    let rule = largest_remainder;
-    let mut pool = match random.below(6) {
-        0 => replayed_before(random),
-        1 => {
-            let count = random.pick(&[0, 1, 2, 3, 8, 60, 255, DEVICES_MOST]);
-            composed(random, rule, count)
-        }
-        2 => {
-            let (range, count) = (random.pick(&[1, RANGE_MOST]), random.pick(&[0, 1, 2, 9, DEVICES_MOST]));
-            composed_in(random, range, Sizes::LeastOrMost, rule, count)
-        }
-        _ => by_both_rules(random).1,
-    };
-    let needed =
-        Pool { limit: u64::MAX, ..pool.clone() }.convert(usize::MAX).unwrap().pool.table.len() as u64;
-    let least = (pool.table.len() as u64).max(1);
-    let limit = random.pick(&[least, needed, needed.saturating_sub(1), LIMIT_MOST, pool.limit]);
-    pool.limit = limit.clamp(least, LIMIT_MOST);
-    pool
-}
-
-/// The pool that a list of changes led to under the share rule of before Wish 4.
-fn replayed_before(random: &mut Random) -> Pool {
-    let (plan, places) = (Plan::new(random), usize::MAX);
-    let mut pool = Pool::fresh(plan.range, plan.limit).unwrap();
-    for _ in 0..2 * plan.devices + 10 {
-        let ids: Vec<u64> = pool.devices.iter().map(|device| device.id).collect();
-        let changed = match plan.change(random, &ids) {
-            Change::Add(id, capacity) => pool.add_by(largest_remainder, id, capacity, places),
-            Change::Remove(id) => pool.remove_by(largest_remainder, id, places),
-            Change::Resize(id, capacity) => pool.resize_by(largest_remainder, id, capacity, places),
-        };
-        pool = changed.map_or(pool, |changed| changed.pool);
+/// The share rule of document 01, which Wish 4 replaced: R × c / C rounded down, and the points left over one each to
+/// the devices with the largest R × c mod C, equal ones to the lower id.
+fn largest_remainder(range: u64, devices: &[Device]) -> Vec<u64> {
+    let sum: u64 = devices.iter().map(|d| d.capacity).sum();
+    let mut shares: Vec<u64> = devices.iter().map(|d| range * d.capacity / sum).collect();
+    let left_over = range - shares.iter().sum::<u64>();
+    let mut order: Vec<usize> = (0..devices.len()).collect();
+    order.sort_by_key(|&i| {
+        let remainder = range * devices[i].capacity % sum;
+        (std::cmp::Reverse(remainder), devices[i].id)
+    });
+    for &i in order.iter().take(left_over as usize) {
+        shares[i] += 1;
     }
-    pool
+    shares
 }
 
 /// Shares of the devices in pieces of any length and order, at most 4,096 of them.

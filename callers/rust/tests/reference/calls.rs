@@ -95,11 +95,11 @@ pub fn add(
     list: &mut [u64],
     answer: &mut [u64],
 ) -> u32 {
-    change(image::read(bytes), |pool, places| pool.add(id, capacity, places), next, list, answer)
+    change(bytes, |pool, places| pool.add(id, capacity, places), next, list, answer)
 }
 
 pub fn remove(bytes: &[u8], id: u64, next: &mut [u8], list: &mut [u64], answer: &mut [u64]) -> u32 {
-    change(image::read(bytes), |pool, places| pool.remove(id, places), next, list, answer)
+    change(bytes, |pool, places| pool.remove(id, places), next, list, answer)
 }
 
 pub fn resize(
@@ -110,23 +110,19 @@ pub fn resize(
     list: &mut [u64],
     answer: &mut [u64],
 ) -> u32 {
-    change(image::read(bytes), |pool, places| pool.resize(id, capacity, places), next, list, answer)
+    change(bytes, |pool, places| pool.resize(id, capacity, places), next, list, answer)
 }
 
-pub fn convert(bytes: &[u8], next: &mut [u8], list: &mut [u64], answer: &mut [u64]) -> u32 {
-    change(image::read_as(image::BEFORE, bytes), Pool::convert, next, list, answer)
-}
-
-/// A change of a pool that was read, or the number that the reading gave.
 fn change(
-    pool: Result<Pool, u32>,
+    bytes: &[u8],
     of: impl FnOnce(&Pool, usize) -> Result<Changed, u32>,
     next: &mut [u8],
     list: &mut [u64],
     answer: &mut [u64],
 ) -> u32 {
     answered(answer, || {
-        let changed = of(&pool?, list.len() / 4)?;
+        let pool = image::read(bytes)?;
+        let changed = of(&pool, list.len() / 4)?;
         let length = put(&image::write(&changed.pool), next)?;
         for (place, m) in list.chunks_exact_mut(4).zip(&changed.moves) {
             place.copy_from_slice(&[m.start, m.length, m.from, m.to]);

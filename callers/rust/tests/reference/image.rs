@@ -1,36 +1,20 @@
-//! The bytes of a pool, in version 2, which Wish 4 brought, and in version 1, whose tables have the shares of before.
+//! The bytes of a pool, in version 2, which Wish 4 brought.
 
 use std::collections::BTreeMap;
 
 use super::pool::{
-    capacity_allowed, id_allowed, largest_remainder, shares, Device, Interval, Pool, Rule, DEVICES_MOST,
-    LIMIT_MOST, RANGE_MOST,
+    capacity_allowed, id_allowed, Device, Interval, Pool, DEVICES_MOST, LIMIT_MOST, RANGE_MOST,
 };
 
 pub const MARK: &[u8] = b"RSL";
+pub const VERSION: u64 = 2;
 pub const HEAD: usize = 19;
 
-/// A version, and the share rule that the tables of its images follow.
-#[derive(Clone, Copy)]
-pub struct Format {
-    pub version: u64,
-    pub rule: Rule,
-}
-
-pub const IN_FORCE: Format = Format { version: 2, rule: shares };
-pub const BEFORE: Format = Format { version: 1, rule: largest_remainder };
-
-/// The image of a pool.
+/// The image of a pool. Values past the width of their place lose their highest bytes, which no valid pool has.
 pub fn write(pool: &Pool) -> Vec<u8> {
-    write_as(IN_FORCE, pool)
-}
-
-/// The image of a pool in one of the formats. Values past the width of their place lose their highest bytes, which no
-/// valid pool has.
-pub fn write_as(format: Format, pool: &Pool) -> Vec<u8> {
     let mut bytes = MARK.to_vec();
     let mut put = |number: u64, width: usize| bytes.extend(&number.to_be_bytes()[8 - width..]);
-    put(format.version, 2);
+    put(VERSION, 2);
     put(pool.range, 8);
     put(pool.limit, 2);
     put(pool.devices.len() as u64, 2);
@@ -48,15 +32,10 @@ pub fn write_as(format: Format, pool: &Pool) -> Vec<u8> {
 
 /// The pool that an image describes, or 14, 15 or 16.
 pub fn read(bytes: &[u8]) -> Result<Pool, u32> {
-    read_as(IN_FORCE, bytes)
-}
-
-/// The same in one of the formats.
-pub fn read_as(format: Format, bytes: &[u8]) -> Result<Pool, u32> {
     if bytes.len() < HEAD || &bytes[..3] != MARK {
         return Err(14);
     }
-    if number(&bytes[3..5]) != format.version {
+    if number(&bytes[3..5]) != VERSION {
         return Err(15);
     }
     let range = number(&bytes[5..13]);
@@ -86,7 +65,7 @@ pub fn read_as(format: Format, bytes: &[u8]) -> Result<Pool, u32> {
         .map(|((&start, &end), owner)| Interval { start, length: end - start, owner })
         .collect();
     let pool = Pool { range, limit, devices, table };
-    if valid(&pool, format.rule) {
+    if valid(&pool) {
         Ok(pool)
     } else {
         Err(16)
@@ -94,7 +73,7 @@ pub fn read_as(format: Format, bytes: &[u8]) -> Result<Pool, u32> {
 }
 
 /// The rules of pool and shares, for intervals that follow one another up to R.
-fn valid(pool: &Pool, rule: Rule) -> bool {
+fn valid(pool: &Pool) -> bool {
     let Pool { range, limit, devices, table } = pool;
     let limits = (1..=RANGE_MOST).contains(range)
         && (1..=LIMIT_MOST).contains(limit)
@@ -117,7 +96,7 @@ fn valid(pool: &Pool, rule: Rule) -> bool {
         };
         *points += interval.length;
     }
-    covered && joined && owned == pool.share_of_id_by(rule)
+    covered && joined && owned == pool.share_of_id()
 }
 
 /// A number with its highest byte first.

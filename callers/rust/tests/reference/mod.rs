@@ -1,12 +1,12 @@
-//! Document 01 in plain Rust, with Wishes 1, 2, 4 and 5 of document 02, written from their text alone: what the library's
+//! Document 01 in plain Rust, with Wishes 1, 2 and 4 of document 02, written from their text alone: what the library's
 //! calls must answer.
 //!
 //! | Module | Sections of document 01 |
 //! |---|---|
 //! | `sha1` | FIPS 180-4, sections 4 to 6 |
-//! | `pool` | Pool and range, Shares (also of before Wish 4), One change |
+//! | `pool` | Pool and range, Shares, One change |
 //! | `lookup` | Points and copies |
-//! | `image` | Image, also of before Wish 4 |
+//! | `image` | Image |
 //! | `history` | History text |
 //! | `calls` | the calls of `gorvyts.h` over lent buffers |
 //!

@@ -1,7 +1,5 @@
-//! Pools, shares and the six steps of a change; the share rule in force is that of Wish 4, and that of document 01
-//! stands beside it for images of before.
+//! Pools, shares and the six steps of a change; the share rule is that of Wish 4.
 
-use std::cmp::Reverse;
 use std::collections::BTreeMap;
 
 pub const RANGE_MOST: u64 = 4_294_967_296;
@@ -58,11 +56,8 @@ pub struct Report {
     pub difference: i64,
 }
 
-/// A share rule: the share of each device, in the order of the devices.
-pub type Rule = fn(u64, &[Device]) -> Vec<u64>;
-
-/// The rule in force, that of Wish 4: how many of a device's quotients c / 1, c / 2, c / 3 .. are among the first R of all
-/// quotients.
+/// The share of each device, in the order of the devices: how many of its quotients c / 1, c / 2, c / 3 .. are among
+/// the first R of all quotients.
 ///
 /// Those that are C / R or more are, of each device, the first R × c / C rounded down. They are at most R and every
 /// other is smaller, so that all of them are among the first R. The others are found one by one.
@@ -92,26 +87,6 @@ fn precedes(one: Device, i: u64, other: Device, j: u64) -> bool {
     crosswise > counterpart || (crosswise == counterpart && one.id < other.id)
 }
 
-/// The rule of document 01, which Wish 4 replaced: R × c / C rounded down, and the points left over one each to the
-/// devices with the largest R × c mod C, equal ones to the lower id.
-pub fn largest_remainder(range: u64, devices: &[Device]) -> Vec<u64> {
-    if devices.is_empty() {
-        return Vec::new();
-    }
-    let sum: u64 = devices.iter().map(|d| d.capacity).sum();
-    let mut shares: Vec<u64> = devices.iter().map(|d| range * d.capacity / sum).collect();
-    let left_over = range - shares.iter().sum::<u64>();
-    let mut order: Vec<usize> = (0..devices.len()).collect();
-    order.sort_by_key(|&i| {
-        let remainder = range * devices[i].capacity % sum;
-        (Reverse(remainder), devices[i].id)
-    });
-    for &i in order.iter().take(left_over as usize) {
-        shares[i] += 1;
-    }
-    shares
-}
-
 impl Pool {
     /// A pool without a device, or 2.
     pub fn fresh(range: u64, limit: u64) -> Result<Pool, u32> {
@@ -132,13 +107,8 @@ impl Pool {
 
     /// The share of each id.
     pub fn share_of_id(&self) -> BTreeMap<u64, u64> {
-        self.share_of_id_by(shares)
-    }
-
-    /// The share of each id under any rule.
-    pub fn share_of_id_by(&self, rule: Rule) -> BTreeMap<u64, u64> {
         let ids = self.devices.iter().map(|d| d.id);
-        ids.zip(rule(self.range, &self.devices)).collect()
+        ids.zip(shares(self.range, &self.devices)).collect()
     }
 
     /// The share of one device, or 2 or 5.
@@ -163,24 +133,6 @@ impl Pool {
     }
 
     pub fn add(&self, id: u64, capacity: u64, places: usize) -> Result<Changed, u32> {
-        self.add_by(shares, id, capacity, places)
-    }
-
-    pub fn remove(&self, id: u64, places: usize) -> Result<Changed, u32> {
-        self.remove_by(shares, id, places)
-    }
-
-    pub fn resize(&self, id: u64, capacity: u64, places: usize) -> Result<Changed, u32> {
-        self.resize_by(shares, id, capacity, places)
-    }
-
-    /// Wish 5: a pool of before Wish 4 with the shares in force, and the same devices.
-    pub fn convert(&self, places: usize) -> Result<Changed, u32> {
-        self.sliced(largest_remainder, shares, self.devices.clone(), places)
-    }
-
-    /// An add under any share rule.
-    pub fn add_by(&self, rule: Rule, id: u64, capacity: u64, places: usize) -> Result<Changed, u32> {
         if !id_allowed(id) || !capacity_allowed(capacity) {
             return Err(2);
         }
@@ -198,11 +150,10 @@ impl Pool {
             let pool = Pool { devices, table, ..*self };
             return Ok(Changed { pool, moves: Vec::new(), moved: 0 });
         }
-        self.sliced(rule, rule, devices, places)
+        self.sliced(devices, places)
     }
 
-    /// A removal under any share rule.
-    pub fn remove_by(&self, rule: Rule, id: u64, places: usize) -> Result<Changed, u32> {
+    pub fn remove(&self, id: u64, places: usize) -> Result<Changed, u32> {
         if !id_allowed(id) {
             return Err(2);
         }
@@ -214,11 +165,10 @@ impl Pool {
         }
         let mut devices = self.devices.clone();
         devices.retain(|d| d.id != id);
-        self.sliced(rule, rule, devices, places)
+        self.sliced(devices, places)
     }
 
-    /// A resize under any share rule.
-    pub fn resize_by(&self, rule: Rule, id: u64, capacity: u64, places: usize) -> Result<Changed, u32> {
+    pub fn resize(&self, id: u64, capacity: u64, places: usize) -> Result<Changed, u32> {
         if !id_allowed(id) || !capacity_allowed(capacity) {
             return Err(2);
         }
@@ -229,14 +179,13 @@ impl Pool {
         for device in devices.iter_mut().filter(|d| d.id == id) {
             device.capacity = capacity;
         }
-        self.sliced(rule, rule, devices, places)
+        self.sliced(devices, places)
     }
 
-    /// The six steps from these devices, whose shares the first rule gives, to those given, whose shares the second one
-    /// gives; then 8 and 9.
-    fn sliced(&self, had: Rule, rule: Rule, devices: Vec<Device>, places: usize) -> Result<Changed, u32> {
+    /// The six steps from these devices to those given, then 8 and 9.
+    fn sliced(&self, devices: Vec<Device>, places: usize) -> Result<Changed, u32> {
         let mut pool = Pool { devices, table: Vec::new(), ..*self };
-        let (old, new) = (self.share_of_id_by(had), pool.share_of_id_by(rule));
+        let (old, new) = (self.share_of_id(), pool.share_of_id());
         let parts = filled(parts(&self.table, reductions(&old, &new)), reductions(&new, &old));
         pool.table = joined(&parts);
         let moves = moves(&parts);

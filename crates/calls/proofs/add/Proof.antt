@@ -7,11 +7,9 @@ use borrow.Author.Rules.{rules}
 use Rattle.slicing.specs.Devices.{device, present, insert, Within}
 use Rattle.slicing.specs.Limits.{device_outside}
 use Rattle.opened.specs.OpenPools.{devices_in, state_in}
-use Rattle.opened.proofs.OpenPools.{open_few, open_ascending, open_intervals, open_labels}
-use Rattle.resharing.proofs.MergedRows.{Next, Prepared}
-use Rattle.calls.proofs.CallChecks.{inside_limits, add_two, add_four, add_six, add_first, add_settle}
-use Rattle.calls.proofs.MergedRows.{prepared_add}
-use Rattle.calls.proofs.NextDevices.{next_add}
+use Rattle.calls.proofs.CallChecks.{open_table, inside_limits, add_two, add_four, add_six, add_first, add_settle}
+use Rattle.calls.proofs.MergedRows.{Prepared, prepared_add}
+use Rattle.calls.proofs.NextDevices.{Next, open_few, open_ascending, next_add}
 use Rattle.calls.proofs.add.Statement.{statement}
 use Rattle.calls.proofs.add.Tie as tie
 
@@ -126,7 +124,7 @@ grown c = c.before.before.before.before.before.before
 raise-requires : tie.Need-raise-requires
 raise-requires c κs =
     let s = start (checked (found (some c.before.before.before.before.before))) in
-    (open_intervals s.pre.0, open_labels s.pre.0, s.pre.1)
+    ((open_table s.pre.0).0, (open_table s.pre.0).1, s.pre.1)
 
 insert-row-requires-3 : tie.Need-insert-row-requires-3
 insert-row-requires-3 c κs =
@@ -169,7 +167,7 @@ returns-5 c =
     let k = checked (found s) in
     let a = (start k).args in (
       add_settle a.before a.table.now a.id a.capacity (inside k) (absent s.before.before) s.before.if3.left
-          (omega (arith, s.if4.left)) (start k).pre.0 (ready r) c.settle.ensures.0,
+          (omega (arith, s.if4.left)) (ready r) c.settle.ensures.0,
       c.settle.ensures.1,
     )
 

@@ -9,11 +9,9 @@ use Rattle.slicing.specs.Devices.{present, delete}
 use Rattle.slicing.specs.Limits.{max_id, outside}
 use Rattle.slicing_core.specs.Rows.{at}
 use Rattle.opened.specs.OpenPools.{devices_in}
-use Rattle.opened.proofs.OpenPools.{open_few, open_ascending, open_intervals, open_labels}
-use Rattle.resharing.proofs.MergedRows.{Next, Prepared}
-use Rattle.calls.proofs.CallChecks.{remove_two, remove_five, remove_seven, remove_settle}
-use Rattle.calls.proofs.MergedRows.{prepared_remove}
-use Rattle.calls.proofs.NextDevices.{next_remove}
+use Rattle.calls.proofs.CallChecks.{open_table, remove_two, remove_five, remove_seven, remove_settle}
+use Rattle.calls.proofs.MergedRows.{Prepared, prepared_remove}
+use Rattle.calls.proofs.NextDevices.{Next, open_few, open_ascending, next_remove}
 use Rattle.calls.proofs.remove.Statement.{statement}
 use Rattle.calls.proofs.remove.Tie as tie
 
@@ -103,7 +101,7 @@ shared-requires c κs =
 raise-requires : tie.Need-raise-requires
 raise-requires c κs =
     let s = start (checked (found (more c.before.before.before.before.before))) in
-    (open_intervals s.pre.0, open_labels s.pre.0, s.pre.1)
+    ((open_table s.pre.0).0, (open_table s.pre.0).1, s.pre.1)
 
 abbrev fewer : tie.After-raise → tie.After-delete-row2
 fewer c = c.before.before.before.before.before.before
@@ -142,7 +140,7 @@ returns-4 c =
     let m = more (fewer r.before.before) in
     let k = checked (found m) in
     let a = (start k).args in (
-      remove_settle a.before a.table.now a.id (known k) (held m.before) m.if3.left (start k).pre.0 (ready r) c.settle.ensures.0,
+      remove_settle a.before a.table.now a.id (known k) (held m.before) m.if3.left (ready r) c.settle.ensures.0,
       c.settle.ensures.1,
     )
 

@@ -10,10 +10,9 @@ use Rattle.slicing.specs.Devices.{device, update, Within}
 use Rattle.slicing.specs.Limits.{device_outside}
 use Rattle.slicing_core.specs.Rows.{at}
 use Rattle.opened.specs.OpenPools.{devices_in}
-use Rattle.opened.proofs.OpenPools.{open_few, open_ascending}
-use Rattle.resharing.proofs.MergedRows.{Next, open_wellformed}
-use Rattle.calls.proofs.CallChecks.{inside_limits, resize_two, resize_five, resize_settle}
-use Rattle.calls.proofs.NextDevices.{next_resize}
+use Rattle.calls.proofs.CallChecks.{open_table, inside_limits, resize_two, resize_five, resize_settle}
+use Rattle.calls.proofs.MergedRows.{Prepared, prepared_resize}
+use Rattle.calls.proofs.NextDevices.{Next, open_few, open_ascending, next_resize}
 use Rattle.calls.proofs.resize.Statement.{statement}
 use Rattle.calls.proofs.resize.Tie as tie
 
@@ -68,6 +67,9 @@ below c = omega (arith, (row c).0, open_few (start (checked (found c))).requires
 within : (c : tie.Else1) → Within 0 (device (start c).args.id (start c).args.capacity)
 within c = inside_limits (start c).args.id (start c).args.capacity (inside c)
 
+abbrev held : tie.After-shared → tie.Else2
+held c = c.before.before.before.before
+
 -- the devices afterwards
 next : (c : tie.Else2)
     → let a = (start (checked (found c))).args in
@@ -75,21 +77,44 @@ next : (c : tie.Else2)
     a.before.devices
 next c = next_resize (start (checked (found c))).requires.0 (within (checked (found c))) (row c)
 
-reshare-requires : tie.Need-reshare-requires
-reshare-requires c κs =
-    let h = c.before.before.before.before in
+shared-requires : tie.Need-shared-requires
+shared-requires c κs =
+    let h = c.before.before.before in
     let n = next h in
-    let p = (start (checked (found h))).requires in
-    ((open_wellformed p.0, p.1, p.2), (n.some, n.rising, n.capacities_size))
+    (n.some, n.most, (start (checked (found h))).requires.0.valid.most, n.rising)
+
+raise-requires : tie.Need-raise-requires
+raise-requires c κs =
+    let s = start (checked (found (held c.before.before.before))) in
+    ((open_table s.pre.0).0, (open_table s.pre.0).1, s.pre.1)
+
+-- what `settle` asks
+ready : (c : tie.After-raise)
+    → let v = c.before.before.before.before in
+    let a = (start (checked (found (held v)))).args in
+    Prepared a.before a.table.now v.shared.result
+    (record { count = a.before.devices; gone = 256; names = a.before.ids; has = a.before.has; due = v.shared.result.has })
+    c.raise.new.1.1.1.0 (update a.id a.capacity (devices_in a.before))
+ready c =
+    let v = c.before.before.before.before in
+    let h = held v in
+    prepared_resize (start (checked (found h))).requires.0 (omega (arith, (row h).0)) _ _ (within (checked (found h))) (row h) v.shared.ensures
+    c.raise.ensures.0
+
+settle-requires : tie.Need-settle-requires
+settle-requires c κs =
+    let r = c.before.before in
+    ((ready r).merged, r.raise.ensures.1, (start (checked (found (held r.before.before.before.before)))).requires.2)
 
 returns-3 : tie.Need-returns-3
 returns-3 c =
-    let h = c.before.before.before.before.before in
+    let r = c.before.before.before in
+    let h = held r.before.before.before.before in
     let k = checked (found h) in
     let a = (start k).args in (
       resize_settle a.before a.table.now a.id a.capacity (inside k)
-          (sym ((found h).find.ensures.1.0 a.before.capacities) ∙ there h) (start k).pre.0 _ (next h).rows c.reshare.ensures.0,
-      c.reshare.ensures.1,
+          (sym ((found h).find.ensures.1.0 a.before.capacities) ∙ there h) (ready r) c.settle.ensures.0,
+      c.settle.ensures.1,
     )
 
 pub resize_spec : {M : Type 1} → statement M
@@ -104,5 +129,7 @@ resize_spec =
     returns-2
     (λ c. omega (arith, below c.before))
     (λ c. below c.before)
-    reshare-requires
+    shared-requires
+    raise-requires
+    settle-requires
     returns-3)

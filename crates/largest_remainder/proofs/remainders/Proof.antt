@@ -31,7 +31,7 @@ loop-again c = (omega arith, filled_to_put c.before.before.loop.invariant.1 (ome
 returns : tie.Need-returns invariant-loop decreases-loop
 returns c =
     let pass = c.before.loop in
-    record { remained = λ k l. pass.invariant.1.done k (omega arith) }
+    record { size = pass.invariant.1.size; remained = λ k l. pass.invariant.1.done k (omega arith) }
 
 pub remainders_spec : {M : Type 1} → statement M
 remainders_spec =

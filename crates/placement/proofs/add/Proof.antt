@@ -3,21 +3,14 @@ use contract.Running.{tables, tables_of}
 use denote.Triple.Spec.{triple_of}
 use denote.Triple.Table.{entered, cited}
 use Rattle.slicing.specs.Changes as Changes
-use Rattle.move_lists.proofs.Writing.{Write}
-use Rattle.move_lists.proofs.write.Symbol as write_def
-use Rattle.move_lists.proofs.write.Symbol.{name as #move-lists·write}
-use Rattle.move_lists.proofs.write.Met as write_thm
-use Rattle.placement.proofs.PassedOn.{MovesOf, AnswerOf}
+use Rattle.placement.proofs.PassedOn.{Write}
 use Rattle.placement.proofs.Passing.{Draw, sized_meets}
 use Rattle.placement.proofs.draw_add.Symbol as draw-def
 use Rattle.placement.proofs.draw_add.Symbol.{name as #placement·draw-add}
 use Rattle.placement.proofs.draw_add.Met as draw-thm
-use Rattle.placement.proofs.moves_of.Symbol as moves-def
-use Rattle.placement.proofs.moves_of.Symbol.{name as #placement·moves-of}
-use Rattle.placement.proofs.moves_of.Met as moves-thm
-use Rattle.placement.proofs.answer_of.Symbol as answer-def
-use Rattle.placement.proofs.answer_of.Symbol.{name as #placement·answer-of}
-use Rattle.placement.proofs.answer_of.Met as answer-thm
+use Rattle.placement.proofs.write.Symbol as write_def
+use Rattle.placement.proofs.write.Symbol.{name as #placement·write}
+use Rattle.placement.proofs.write.Met as write_thm
 use Rattle.placement.specs.contracts.add.Key.{name as #placement·add}
 use Rattle.placement.specs.contracts.add as add
 use Rattle.placement.proofs.add.Statement as stated
@@ -30,8 +23,4 @@ add_spec 𝓤 𝓛 𝓜 𝓡 =
     (tables 𝓤 𝓛.H 𝓜 𝓡 code.env).C (tables 𝓤 𝓛.H 𝓜 𝓡 code.env).Λ #placement·add code.function (code.unfolded 𝓤 𝓛.H 𝓜 𝓡)
     (sized_meets 𝓛 𝓜.mem 𝓡.run Changes.add #placement·draw-add (tables_of 𝓤 𝓛.H 𝓜 (tables 𝓤 𝓛.H 𝓜 𝓡 code.env))
     (cited 𝓤 𝓛.H (Draw 𝓛 𝓜.mem 𝓡.run Changes.add #placement·draw-add) 𝓜 𝓡 code.env #placement·draw-add draw-def.routine code.calls-placement::draw-add (draw-thm.met 𝓤 𝓛 𝓜 𝓡))
-    (record {
-      moves = cited 𝓤 𝓛.H (MovesOf 𝓛 𝓜.mem 𝓡.run) 𝓜 𝓡 code.env #placement·moves-of moves-def.routine code.calls-placement::moves-of (moves-thm.met 𝓤 𝓛 𝓜 𝓡);
-      written = cited 𝓤 𝓛.H (Write 𝓛 𝓜.mem 𝓡.run) 𝓜 𝓡 code.env #move-lists·write write_def.routine code.calls-move-lists::write (write_thm.met 𝓤 𝓛 𝓜 𝓡);
-      answer = cited 𝓤 𝓛.H (AnswerOf 𝓛 𝓜.mem 𝓡.run) 𝓜 𝓡 code.env #placement·answer-of answer-def.routine code.calls-placement::answer-of (answer-thm.met 𝓤 𝓛 𝓜 𝓡);
-    }))
+    (cited 𝓤 𝓛.H (Write 𝓛 𝓜.mem 𝓡.run) 𝓜 𝓡 code.env #placement·write write_def.routine code.calls-placement::write (write_thm.met 𝓤 𝓛 𝓜 𝓡)))

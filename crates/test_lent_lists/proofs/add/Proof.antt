@@ -11,14 +11,16 @@ use Rattle.slicing.specs.Changes as Changes
 use Rattle.placement.proofs.add.Symbol as call-def
 use Rattle.placement.proofs.add.Symbol.{name as #placement·add}
 use Rattle.placement.proofs.add.Met as call-thm
-use Rattle.test_lent_lists.proofs.Lending.{sized_operands, Sized, calls_sized, lending_meets}
-use Rattle.test_lent_lists.proofs.Loans.{Blank, Count}
+use Rattle.test_lent_lists.proofs.Lending.{sized_operands, Sized, Blank, Count, Both, calls_sized, lending_meets}
 use Rattle.test_lent_lists.proofs.blank.Symbol as blank-def
 use Rattle.test_lent_lists.proofs.blank.Symbol.{name as #blank}
 use Rattle.test_lent_lists.proofs.blank.Met as blank-thm
 use Rattle.test_lent_lists.proofs.places_lent.Symbol as count-def
 use Rattle.test_lent_lists.proofs.places_lent.Symbol.{name as #places-lent}
 use Rattle.test_lent_lists.proofs.places_lent.Met as count-thm
+use Rattle.test_lent_lists.proofs.both.Symbol as both-def
+use Rattle.test_lent_lists.proofs.both.Symbol.{name as #both}
+use Rattle.test_lent_lists.proofs.both.Met as both-thm
 use Rattle.test_lent_lists.specs.contracts.add.Key.{name as #test-lent-lists·add}
 use Rattle.test_lent_lists.specs.contracts.add as add
 use Rattle.test_lent_lists.proofs.add.Statement as stated
@@ -34,6 +36,7 @@ add_spec 𝓤 𝓛 𝓜 𝓡 =
     (lending_meets 𝓛 𝓜.mem 𝓡.run Changes.add #placement·add sized_operands 𝓣
     (cited 𝓤 𝓛.H (Blank 𝓛 𝓜.mem 𝓡.run) 𝓜 𝓡 code.env #blank blank-def.routine code.calls-test-lent-lists::blank (blank-thm.met 𝓤 𝓛 𝓜 𝓡))
     (cited 𝓤 𝓛.H (Count 𝓛 𝓜.mem 𝓡.run) 𝓜 𝓡 code.env #places-lent count-def.routine code.calls-test-lent-lists::places-lent (count-thm.met 𝓤 𝓛 𝓜 𝓡))
+    (cited 𝓤 𝓛.H (Both 𝓛 𝓜.mem 𝓡.run) 𝓜 𝓡 code.env #both both-def.routine code.calls-test-lent-lists::both (both-thm.met 𝓤 𝓛 𝓜 𝓡))
     (λ p id capacity places p-is id-fits capacity_fits l₀ l₁ l₂ l₃ l₄ l₅ l₆ l₇ l₈ l₉ l₁₀ κ γ xs n v next.
     calls_sized ! (fm_of 𝓤 𝓛.H 𝓛.laws 𝓣) 𝓜.mem 𝓡.run Changes.add κ l₅ γ (take n xs) p id capacity known p-is id-fits capacity_fits
-    (and_then ! (load ! (from ! (stop !)) (look ! 19 refl)) (and_then ! (load ! (from ! (stop !)) (look ! 17 refl)) (and_then ! (load ! (from ! (stop !)) (look ! 15 refl)) (and_then ! (load ! (from ! (stop !)) (look ! 7 refl)) (no_more !))))) next))
+    (and_then ! (load ! (from ! (stop !)) (look ! 19 refl)) (and_then ! (load ! (from ! (stop !)) (look ! 17 refl)) (and_then ! (load ! (from ! (stop !)) (look ! 15 refl)) (and_then ! (load ! (from ! (stop !)) (look ! 2 refl)) (no_more !))))) next))

@@ -21,7 +21,7 @@ returns c =
 
 -- past the check the pool is open
 opened : (c : tie.Else1) → let r = c.before.before.read-open in
-    Open r.result.opened r.new.1.1.0 × (state_in r.result.opened r.new.1.1.0 ≡ state_of r.result.pool)
+    Open r.result.opened r.new.1.0 × (state_in r.result.opened r.new.1.0 ≡ state_of r.result.pool)
 opened c = c.before.before.read-open.ensures.1.0 (omega (arith, c.if1.false))
 
 find-device-requires : tie.Need-find-device-requires

@@ -24,7 +24,7 @@ read c = c.before.before
 
 -- past the first check the pool is open
 opened : (c : tie.Else1) → let r = (read c).read-open in
-    Open r.result.opened r.last.1.1.0 × (state_in r.result.opened r.last.1.1.0 ≡ state_of r.result.pool)
+    Open r.result.opened r.last.1.0 × (state_in r.result.opened r.last.1.0 ≡ state_of r.result.pool)
 opened c = (read c).read-open.ensures.1.0 (omega (arith, c.if1.false))
 
 returns-2 : tie.Need-returns-2

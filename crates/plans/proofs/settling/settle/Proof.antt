@@ -29,18 +29,16 @@ steps-requires c κs =
 returns : tie.Need-returns
 returns c =
     let v = c.before.before.before in
-    let d = v.steps.ensures in (
-      λ has once h. planned_refused _ 8 (omega arith) c.refused.ensures (λ lent l. settled_eight (start v).requires.0 once h d c.before.if1.true lent),
-      (d.work_size, d.next_size),
-    )
+    let d = v.steps.ensures in
+    (planned_refused _ 8 (omega arith) c.refused.ensures (λ lent l. settled_eight (start v).requires.0 d c.before.if1.true lent), (d.work_size, d.next_size))
 
 returns-2 : tie.Need-returns-2
 returns-2 c =
     let w = c.before.before.before in
     let v = stepped w in
     let d = v.steps.ensures in (
-      λ has once h. planned_refused _ 9 (omega arith) c.refused2.ensures
-          (λ lent l. settled_nine (start v).pre.0 once h d w.if1.false lent (omega (arith, c.before.if2.true))),
+      planned_refused _ 9 (omega arith) c.refused2.ensures
+          (λ lent l. settled_nine (start v).pre.0 d w.if1.false lent (omega (arith, c.before.if2.true))),
       (d.work_size, d.next_size),
     )
 
@@ -57,7 +55,7 @@ returns-3 c =
     let w = first b in
     let v = stepped w in
     let d = v.steps.ensures in (
-      λ has once h. planned_settled (start v).pre.0 once h d w.if1.left _ l.lower.ensures.0 l.lower.ensures.1 _ _ b.if2.false refl refl refl refl refl refl,
+      planned_settled (start v).pre.0 d w.if1.left _ l.lower.ensures.0 l.lower.ensures.1 _ _ b.if2.false refl refl refl refl refl refl,
       (d.work_size, l.lower.ensures.1),
     )
 

@@ -6,8 +6,6 @@ use native.Mathlib.Omega.{arith}
 use lib.ListN.{length, length-replicate}
 use borrow.Author.Rules.{rules}
 use borrow.Author.Tests.{not_true, not-false}
-use Rattle.share_rules.specs.ShareRules.{rule_of}
-use Rattle.share_rules.proofs.RuleLaws.{lawful}
 use Rattle.pools.specs.declared.Pool.{Pool}
 use Rattle.pools.specs.Pools.{Formed}
 use Rattle.valid_pools.specs.Opening.{Entered}
@@ -57,23 +55,23 @@ returns-2 c =
     let n = numbers f in
     let s = start f in
     let t = s.args.table.now in (
-      empty_valid (pool f) n.ids n.capacities (lawful s.args.rule) (starts_size s) (owners_size s) (is_formed c.before) c.if2.true,
+      empty_valid (pool f) n.ids n.capacities (starts_size s) (owners_size s) (is_formed c.before) c.if2.true,
       (
-        λ e. entered_opens (rule_of s.args.rule) n t
-            (empty_opened (pool f) n.ids n.capacities (lawful s.args.rule) (starts_size s) (owners_size s) (is_formed c.before) _ t c.if2.true
+        λ e. entered_opens n t
+            (empty_opened (pool f) n.ids n.capacities (starts_size s) (owners_size s) (is_formed c.before) _ t c.if2.true
             (length-replicate {A = ℕ} 256 0) s.pre.1),
         s.pre.1,
       ),
     )
 
-abbrev some : tie.After-shares-by → tie.Else2
+abbrev some : tie.After-shares → tie.Else2
 some c = c.before.before.before
 
-abbrev shared : tie.After-dealt-arg → tie.After-shares-by
+abbrev shared : tie.After-dealt-arg → tie.After-shares
 shared c = c.before.before.before.before.before
 
-shares-by-requires : tie.Need-shares-by-requires
-shares-by-requires c κs =
+shares-requires : tie.Need-shares-requires
+shares-requires c κs =
     let e = c.before.before in
     let f = e.before.before in
     let m = is_formed e.before in
@@ -106,11 +104,11 @@ returns-3 c =
     let more : 1 ≤ (pool f).devices = omega (arith, e.if2.left) in
     let found = dealing.dealt.result in
     let h = dealing.dealt.ensures in (
-      dealt_decides (pool f) n.ids n.capacities (lawful s.args.rule) (starts_size s) (owners_size s) m more sharing.shares-by.result sharing.shares-by.ensures.0 found.fair
+      dealt_decides (pool f) n.ids n.capacities (starts_size s) (owners_size s) m more sharing.shares.result sharing.shares.ensures.0 found.fair
           h.0,
       (
-        λ z. filled_opens (rule_of s.args.rule) n _ found.has
-            (dealt_opened (pool f) n.ids n.capacities (lawful s.args.rule) (starts_size s) (owners_size s) m more sharing.shares-by.result sharing.shares-by.ensures.0
+        λ z. filled_opens n _ found.has
+            (dealt_opened (pool f) n.ids n.capacities (starts_size s) (owners_size s) m more sharing.shares.result sharing.shares.ensures.0
             found.fair h.0 z found.has _ (h.1.0 z).0 (h.1.0 z).1 h.1.1.0 h.1.1.1),
         h.1.1.1,
       ),
@@ -124,6 +122,6 @@ open_cleared_spec =
     formed-requires
     returns
     returns-2
-    shares-by-requires
+    shares-requires
     dealt-requires
     returns-3)

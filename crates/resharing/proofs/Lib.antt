@@ -1,3 +1,0 @@
-pub mod RaisedRows
-pub mod MergedRows
-pub mod Carrying
