@@ -1,4 +1,6 @@
 // Results in the first places of an answer.
+#![tactic(auto)]
+
 ghost use Rattle.std.specs.Prelude.{◌≡◌, ◌∷◌, ◌≤◌, length, drop};
 
 pub fn put1(answer: &mut [u64], x: u64)

@@ -1,4 +1,6 @@
 // Exports for the programs of bench/.
+#![tactic(auto)]
+
 mod checksums;
 mod copies;
 mod digests;

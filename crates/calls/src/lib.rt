@@ -1,4 +1,6 @@
 // The three calls for a change, planned on an opened pool.
+#![tactic(auto)]
+
 ghost use Rattle.std.specs.Prelude.{◌≡◌, length};
 ghost use Rattle.slicing.specs.Changes as Changes;
 ghost use Rattle.packed_runs.specs.Words.{room};
@@ -22,7 +24,7 @@ use slicing_core::devices::{delete_row, insert_row};
 const NO_ROW: usize = 256;
 
 // A call for a change, with its arguments.
-#[derive(Drop)]
+#[derive(Clone, Copy)]
 pub enum Call {
     Add(u64, u64),
     Remove(u64),

@@ -1,5 +1,7 @@
 // Step 5: the pieces filled from a queue of devices in need: each point's old owner and its new. Knows
 // nothing of capacities, pools and validity.
+#![tactic(auto)]
+
 ghost use Rattle.std.specs.Prelude.{◌≡◌, ◌+◌, ◌≤◌, ◌<◌, ◌^◌, length};
 ghost use Rattle.slicing.specs.Runs.{total, coalesce};
 ghost use Rattle.slicing.specs.SixSteps.{same_turn};

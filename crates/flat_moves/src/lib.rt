@@ -1,4 +1,6 @@
 // The writer of a plan's moves as flat numbers, four a move. For callers that have no structs.
+#![tactic(auto)]
+
 ghost use Rattle.std.specs.Prelude.{◌≡◌, [], ◌∷◌, ◌++◌, map, ◌+◌, ◌*◌, ◌≤◌, ◌<◌, ◌^◌, length, take, drop};
 ghost use Rattle.slicing.specs.Runs.{total};
 ghost use Rattle.slicing.specs.SixSteps.{moves_from};

@@ -5,6 +5,8 @@
 // `answer`, zeros there on a refusal; where it has too few places the call is refused with 17 and
 // nothing is written. Beside the answer a refused call writes nothing. For many lookups of one pool its
 // image is opened: the pool's arrays then stand in memory of the caller's, and each lookup is given them.
+#![tactic(auto)]
+
 mod changes;
 mod looking;
 mod making;

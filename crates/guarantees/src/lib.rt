@@ -1,1 +1,2 @@
 // Each offered call's outcomes in plain terms, and no code: see proofs/.
+#![tactic(auto)]

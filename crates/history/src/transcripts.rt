@@ -18,7 +18,7 @@ pub const ROOM: usize = 3145728;
 pub const LONGEST: usize = 65536;
 
 // The answer of a transcript: how many bytes were printed.
-#[derive(Drop)]
+#[derive(Clone, Copy)]
 pub enum TranscriptAnswer {
     Printed(usize),
     Refused(u32),

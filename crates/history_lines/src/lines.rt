@@ -12,7 +12,7 @@ use history_numbers::{CapacityAnswer, Parsed, capacity, find, number};
 use slicing::{MAX_ID, MAX_LIMIT, MAX_RANGE, OUTSIDE, SHAPELESS, outside};
 
 // What a line says, or the number that refuses it.
-#[derive(Drop)]
+#[derive(Clone, Copy)]
 pub enum LineAnswer {
     Range(u64, u64),
     Add(u64, u64),
@@ -147,7 +147,7 @@ pub fn line(text: &[u8]) -> LineAnswer
 }
 
 // A line of a text: what it says, and where the next one starts.
-#[derive(Drop)]
+#[derive(Clone, Copy)]
 pub struct Part {
     pub said: LineAnswer,
     pub next: usize,

@@ -8,14 +8,14 @@ ghost use Rattle.history_numbers.specs.declared.numbers.Parsed.TheVariants.{Numb
 use slicing::{MAX_CAPACITY, OUTSIDE, SHAPELESS, outside};
 
 // A word read as a number.
-#[derive(Drop)]
+#[derive(Clone, Copy)]
 pub enum Parsed {
     Number(u64),
     Shapeless,
 }
 
 // The answer of the capacity reader.
-#[derive(Drop)]
+#[derive(Clone, Copy)]
 pub enum CapacityAnswer {
     Thousandths(u64),
     Refused(u32),

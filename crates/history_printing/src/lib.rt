@@ -1,4 +1,6 @@
 // What `slices` prints, written into a buffer: lines of numbers, the rows of a table, a text. Internal.
+#![tactic(auto)]
+
 ghost use Rattle.std.specs.Prelude.{◌≡◌, [], ◌∷◌, ◌++◌, ◌+◌, ◌*◌, ◌≤◌, ◌<◌, ◌^◌, cond, eqb, ltb, length, take, drop};
 ghost use Rattle.slicing.specs.Runs.{Coalesced};
 ghost use Rattle.slicing_core.specs.Rows.{at, table_rows, interval_rows};

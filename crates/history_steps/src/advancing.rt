@@ -21,7 +21,7 @@ pub const PLACES: usize = 4096;
 
 // What a line gives: the refusal number or 0, the moved points, the number of moves; and whether a range
 // line was accepted, and the pool, afterwards. The pool's table stands in an array of its own.
-#[derive(Drop)]
+#[derive(Clone, Copy)]
 pub struct Step {
     pub refusal: u32,
     pub moved: u64,

@@ -16,7 +16,7 @@ use slicing::{MISPLACED, OUTSIDE};
 use valid_pools::open;
 
 // Whether a range line was accepted, and the pool.
-#[derive(Drop)]
+#[derive(Clone, Copy)]
 pub struct History {
     pub begun: bool,
     pub pool: Pool,
@@ -38,7 +38,7 @@ impl History {
 
 // What a line gives: the refusal number or 0, the moved points, the number of moves, and the history
 // afterwards.
-#[derive(Drop)]
+#[derive(Clone, Copy)]
 pub struct LineResult {
     pub refusal: u32,
     pub moved: u64,

@@ -1,5 +1,7 @@
 // The way of a history from one descriptor to another: reads the text, writes its transcript, and tells
 // which of the two failed.
+#![tactic(auto)]
+
 ghost use Rattle.std.specs.Prelude.{◌≡◌, ◌+◌, length, take};
 ghost use Rattle.io.specs.Counts.{IsPrefixLen};
 ghost use Rattle.history.specs.Promises.{room};
@@ -12,7 +14,7 @@ use streams::Input;
 pub const MOST: usize = 65537;
 
 // What became of a history. After the last two `os::errno` says why.
-#[derive(Drop)]
+#[derive(Clone, Copy)]
 pub enum Outcome {
     Printed,
     // Nothing was written.

@@ -1,5 +1,7 @@
 // Changes of a pool: from its image to the image of the changed pool, the moves as flat numbers. For callers
 // that have neither structs nor anything to hold a pool in.
+#![tactic(auto)]
+
 ghost use Rattle.std.specs.Prelude.{◌≡◌, ◌≤◌, length};
 ghost use Rattle.opened.specs.OpenPools.{state_in, Open};
 ghost use Rattle.calls.specs.Calls.{change_of};

@@ -1,5 +1,7 @@
 // Pools made from numbers and from a history, written as images, a check of an image, and transcripts told. Any bytes,
 // numbers and buffers get an answer; beside the answer a refused call writes nothing.
+#![tactic(auto)]
+
 ghost use Rattle.std.specs.Prelude.{◌≡◌, cond, ◌≤◌, ltb, length};
 ghost use Rattle.pools.specs.Pools.{state_of, ValidPool};
 ghost use Rattle.image_making.specs.Promises.{Checked, unstored, stored_as, FreshStored, ReplayStored, Transcript};

@@ -1,4 +1,6 @@
 // The numbers in the bytes of an image, and its head. Internal: `image_bytes` and `images` stand on it.
+#![tactic(auto)]
+
 pub mod head;
 pub mod numbers;
 

@@ -1,6 +1,8 @@
 // The offered calls on images: a pool from the bytes of an image, and the image of a pool. Any bytes,
 // any pool and any buffer get an answer; a refusal leaves the buffer as it was. Internal: `read_open`, which
 // leaves the pool opened, and `store`, for a pool that is known to be valid.
+#![tactic(auto)]
+
 mod reader;
 mod writer;
 
@@ -8,7 +10,7 @@ pub use reader::{ReadAnswer, read, read_open};
 pub use writer::{store, write};
 
 // The answer of a write: the image's length.
-#[derive(Drop)]
+#[derive(Clone, Copy)]
 pub enum WriteAnswer {
     Written(usize),
     Refused(u32),

@@ -58,7 +58,7 @@ fn described(image: &[u8], n: usize, q: usize) -> Pool
 }
 
 // What a read leaves: its answer, and, where it was not refused, the pool opened.
-#[derive(Drop)]
+#[derive(Clone, Copy)]
 pub struct ReadAnswer {
     pub refusal: u32,
     pub pool: Pool,

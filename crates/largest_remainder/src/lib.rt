@@ -1,5 +1,7 @@
 // The share rule before Wish 4: shares by largest remainder, which images of version 1 were written under.
 // Internal: nothing in force calls it, and bench/shares measures against it.
+#![tactic(auto)]
+
 ghost use Rattle.std.specs.Prelude.{◌≡◌, ◌≤◌, ◌<◌, length};
 ghost use Rattle.slicing.specs.Devices.{Rising};
 ghost use Rattle.slicing.specs.LargestRemainder.{largest_remainder};

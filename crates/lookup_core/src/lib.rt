@@ -1,5 +1,7 @@
 // The stages of a lookup on lent arrays: search by halving, the point of a probe, the probing for copies.
 // Internal: the calls of `lookups` stand on it. Nothing is asked of the arrays' numbers.
+#![tactic(auto)]
+
 ghost use Rattle.std.specs.Prelude.{◌≡◌, ◌+◌, ◌≤◌, ◌<◌, length, take};
 ghost use Rattle.lookup_core.specs.Halving.{halve, owner_found, clamped};
 ghost use Rattle.lookup_core.specs.Probes.{point_of, member};
@@ -91,7 +93,7 @@ fn chosen(owners: &[u16; 8], n: usize, owner: u16) -> bool
 }
 
 // The owners chosen, in order and then zeros; how many; and the probes made.
-#[derive(Drop)]
+#[derive(Clone, Copy)]
 pub struct ProbeAnswer {
     pub owners: [u16; 8],
     pub found: usize,

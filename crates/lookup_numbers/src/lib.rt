@@ -1,5 +1,7 @@
 // What lookups answer, as numbers in lent places: an owner, copies in a row of ten, counters in a tally of two.
 // Internal: the lookups on images and on opened pools stand on it.
+#![tactic(auto)]
+
 mod copies;
 mod owners;
 

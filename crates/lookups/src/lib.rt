@@ -2,6 +2,8 @@
 // pool decides first whether the pool is valid, and refuses any other with 2. For callers that make
 // many lookups of a pool that is known to be valid there are lookups on its lent arrays: they decide
 // nothing, take logarithmic time, and are safe for any contents.
+#![tactic(auto)]
+
 ghost use Rattle.std.specs.Prelude.{◌≡◌, ◌+◌, min, replicate};
 ghost use Rattle.lookups.specs.Promises.{Located, Looked, LookedIn, Copied, CopiedIn};
 ghost use Rattle.lookups.specs.Counting.{most};
@@ -14,21 +16,21 @@ use slicing::{
 use valid_pools::valid;
 
 // The answer of a call for the owner of a point.
-#[derive(Drop)]
+#[derive(Clone, Copy)]
 pub enum OwnerAnswer {
     Owner(u64),
     Refused(u32),
 }
 
 // The answer of a call for the point of a probe.
-#[derive(Drop)]
+#[derive(Clone, Copy)]
 pub enum PointAnswer {
     Point(u64),
     Refused(u32),
 }
 
 // Accepted lookups of copies and their probes (document 01's tally). Both stay at 4,294,967,295.
-#[derive(Drop)]
+#[derive(Clone, Copy)]
 pub struct Counters {
     pub lookups: u32,
     pub probes: u32,
@@ -48,7 +50,7 @@ impl Counters {
 
 // The answer of a call for copies: the refusal number or 0, the owners in the order chosen and then
 // zeros, the probes made, and the counters afterwards.
-#[derive(Drop)]
+#[derive(Clone, Copy)]
 pub struct CopiesAnswer {
     pub refusal: u32,
     pub owners: [u16; 8],

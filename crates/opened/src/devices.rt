@@ -29,7 +29,7 @@ pub fn position(ids: &[u64; MAX_DEVICES], n: usize, id: u64) -> usize
 }
 
 // The row of a device, or the row that it would have.
-#[derive(Drop)]
+#[derive(Clone, Copy)]
 pub struct Place {
     pub row: usize,
     pub present: bool,

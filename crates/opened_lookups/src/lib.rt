@@ -1,5 +1,7 @@
 // An opened pool: the arrays of the pool that an image describes, in memory of the caller's, and lookups on them.
 // The image is read and checked once; a lookup then decides nothing, and any contents of the arrays get an answer.
+#![tactic(auto)]
+
 ghost use Rattle.std.specs.Prelude.{◌≡◌, ◌++◌, ◌≤◌, length, drop};
 ghost use Rattle.opened_lookups.specs.Promises.{OpenedFrom, OwnedIn, CopiedOneIn};
 

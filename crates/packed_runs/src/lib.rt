@@ -2,6 +2,8 @@
 //
 // A run is one number, size × 65,536 + label. An owner is its row among the devices, 0 to 255. The label
 // of a piece is its owner, and 256 more where it is taken; that of a turn is old × 256 + new.
+#![tactic(auto)]
+
 ghost use Rattle.std.specs.Prelude.{◌≡◌, ◌+◌, ◌*◌, ◌≤◌, ◌<◌, ◌^◌, min, length};
 ghost use Rattle.slicing.specs.Runs.{total};
 ghost use Rattle.packed_runs.specs.Words.{runs, room};

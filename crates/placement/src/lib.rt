@@ -1,6 +1,8 @@
 // The offered changes: add, remove and resize, with the moves written into a list of structs. A pool is
 // opened, which decides whether it is valid; the change is planned with no list; one writer copies the
 // moves into the lent list.
+#![tactic(auto)]
+
 ghost use Rattle.std.specs.Prelude.{◌≡◌, ◌++◌, map, ◌≤◌, ◌<◌, ◌^◌, ltb, length, take, drop};
 ghost use Rattle.slicing.specs.Changes as Changes;
 ghost use Rattle.slicing.specs.Runs.{total};
@@ -18,7 +20,7 @@ use slicing::{MAX_DEVICES, OUTSIDE};
 use valid_pools::open;
 
 // A move: `length` points from `start` on go from one device to another.
-#[derive(Drop)]
+#[derive(Clone, Copy)]
 pub struct Move {
     pub start: u64,
     pub length: u64,
@@ -28,7 +30,7 @@ pub struct Move {
 
 // The answer of a call that changes a pool: the refusal number or 0, the moved points, the number of
 // moves, and the pool afterwards.
-#[derive(Drop)]
+#[derive(Clone, Copy)]
 pub struct ChangeAnswer {
     pub refusal: u32,
     pub moved: u64,
@@ -37,7 +39,7 @@ pub struct ChangeAnswer {
 }
 
 // A change worked out: its answer, and its moves in the first places, as many as the answer says.
-#[derive(Drop)]
+#[derive(Clone, Copy)]
 struct Draft {
     answer: ChangeAnswer,
     rows: [Move; ROOM],

@@ -1,5 +1,7 @@
 // What a plan of a change of an opened pool is, worked out with no list: one plan, of which a writer of moves, a
 // pool and a history each take what they need. An opened pool is valid; nothing here decides that again.
+#![tactic(auto)]
+
 pub mod first;
 pub mod labels;
 pub mod settling;
@@ -9,7 +11,7 @@ use slicing::MAX_DEVICES;
 
 // A change worked out: the refusal number or 0, the moved points, the number of moves, how many turns there
 // are, the ids by which their rows are named, and the pool afterwards.
-#[derive(Drop)]
+#[derive(Clone, Copy)]
 pub struct Plan {
     pub refusal: u32,
     pub moved: u64,
@@ -21,7 +23,7 @@ pub struct Plan {
 
 // The rows that take part in a change, those before it and after it: their ids, what each has, what each
 // is to have, and the row that goes, or 256.
-#[derive(Drop)]
+#[derive(Clone, Copy)]
 pub struct Rows {
     pub count: usize,
     pub gone: usize,

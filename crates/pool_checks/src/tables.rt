@@ -114,7 +114,7 @@ fn same(has: &[u64; MAX_DEVICES], due: &[u64; MAX_DEVICES], n: usize) -> bool
 }
 
 // What each row has of a pool's intervals, and whether each has its due.
-#[derive(Drop)]
+#[derive(Clone, Copy)]
 pub struct Holdings {
     pub fair: bool,
     pub has: [u64; MAX_DEVICES],

@@ -14,7 +14,7 @@ use packed_runs::{LABELS, ROOM};
 use slicing::{MAX_DEVICES, MAX_INTERVALS};
 
 // A pool's columns of devices.
-#[derive(Drop)]
+#[derive(Clone, Copy)]
 struct Columns {
     ids: [u16; MAX_DEVICES],
     capacities: [u32; MAX_DEVICES],

@@ -1,4 +1,6 @@
 // The struct Pool. Offered: a fresh pool. Internal: an opened pool closed. Knows nothing of text.
+#![tactic(auto)]
+
 use slicing::{MAX_DEVICES, MAX_INTERVALS};
 
 mod closing;
@@ -8,7 +10,7 @@ pub use closing::close;
 pub use making::fresh;
 
 // A pool by value. Places from `devices` on, and from `intervals` on, are 0.
-#[derive(Drop)]
+#[derive(Clone, Copy)]
 pub struct Pool {
     pub range: u64,
     pub limit: u32,
@@ -21,7 +23,7 @@ pub struct Pool {
 }
 
 // The answer of a call that makes a pool.
-#[derive(Drop)]
+#[derive(Clone, Copy)]
 pub struct PoolAnswer {
     pub refusal: u32,
     pub pool: Pool,

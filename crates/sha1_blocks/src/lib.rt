@@ -1,4 +1,6 @@
 // One block of SHA-1 of FIPS 180-4: the hash value, and `compress`, the hash value after one block more. Internal.
+#![tactic(auto)]
+
 ghost use Rattle.std.specs.Prelude.{◌≡◌};
 ghost use Rattle.sha1_blocks.specs.Fips180 as Fips;
 
@@ -9,7 +11,7 @@ mod steps;
 pub use steps::compress;
 
 // A hash value: the words H_0 to H_4.
-#[derive(Drop)]
+#[derive(Clone, Copy)]
 pub struct Hash {
     pub h0: u32,
     pub h1: u32,
@@ -38,7 +40,7 @@ impl Hash {
 }
 
 // The working variables of a block's rounds.
-#[derive(Drop)]
+#[derive(Clone, Copy)]
 struct Variables {
     a: u32,
     b: u32,

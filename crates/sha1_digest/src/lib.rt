@@ -1,5 +1,7 @@
 // SHA-1 of FIPS 180-4 on 0 to 65,536 bytes. Offered: `digest`, for the bytes of a slice, and
 // `first_word`, for twelve bytes given as numbers. The rest is internal.
+#![tactic(auto)]
+
 ghost use Rattle.std.specs.Prelude.{◌≡◌, ◌++◌, ◌/◌, get_or};
 ghost use Rattle.sha1_blocks.specs.Fips180 as Fips;
 ghost use Rattle.sha1_blocks.specs.Fips180.{bytes};
@@ -10,7 +12,7 @@ use sha1_blocks::{Hash, compress};
 mod message;
 
 // The answer to a call of `digest`: document 01's refusal number, or 0 and the five words.
-#[derive(Drop)]
+#[derive(Clone, Copy)]
 pub struct DigestAnswer {
     pub refusal: u32,
     pub words: [u32; 5],

@@ -1,6 +1,8 @@
 // The share rule in code: what each device of a pool is to have. Internal: `opened` and `valid_pools` stand on it.
 // `shares` names the rule in force, which is a module of its own; another rule is another module or, as that
 // before this one is, a crate.
+#![tactic(auto)]
+
 pub mod capacities;
 pub mod dues;
 mod greatest_divisors;

@@ -10,6 +10,8 @@
 //
 // Step 5 is the crate `filling`; how a run is one number is told in `packed_runs`. Knows nothing of
 // capacities, pools and validity.
+#![tactic(auto)]
+
 pub mod cutting;
 pub mod joining;
 pub mod quotas;

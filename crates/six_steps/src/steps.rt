@@ -14,7 +14,7 @@ use packed_runs::ROOM;
 use slicing::MAX_DEVICES;
 
 // What the steps leave: how many turns and intervals there are, the moved points and the number of moves.
-#[derive(Drop)]
+#[derive(Clone, Copy)]
 pub struct Done {
     pub turns: usize,
     pub intervals: usize,

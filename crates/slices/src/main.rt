@@ -2,6 +2,8 @@
 // number or 0, the moved points and the number of moves; then the table. What is printed is decided by
 // `history`. A history that could not be read, of which nothing is printed, and a transcript that could
 // not be written whole are told in a line on standard error.
+#![tactic(auto)]
+
 use history_streams::Outcome;
 use libc::{STDIN_FILENO, STDOUT_FILENO};
 

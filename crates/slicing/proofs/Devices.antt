@@ -43,13 +43,16 @@ rising_capacities a [] h = omega arith
 rising_capacities a (e ∷ ds) h = omega (arith, h.0.some, rising_capacities e.id ds h.1)
 
 pub rising_some : {e : Device} (a : ℕ) (ds : List Device) → Rising a ds → Memᴰ e ds → 1 ≤ capacities ds
+rising_some {e = e} a [] h m = elim m [ ]
 rising_some a (d ∷ ds) h m = omega (arith, h.0.some)
 
 pub rising_least : {e : Device} (a : ℕ) (ds : List Device) → Rising a ds → Memᴰ e ds → 1 ≤ e.capacity
+rising_least {e = e} a [] h x'' = elim x'' [ ]
 rising_least a (d ∷ ds) h (Memᴰ.head p) = rw p h.0.some
 rising_least a (d ∷ ds) h (Memᴰ.tail m) = rising_least d.id ds h.1 m
 
 pub rising_most : {e : Device} (a : ℕ) (ds : List Device) → Rising a ds → Memᴰ e ds → e.capacity ≤ max_capacity
+rising_most {e = e} a [] h x'' = elim x'' [ ]
 rising_most a (d ∷ ds) h (Memᴰ.head p) = rw p h.0.most
 rising_most a (d ∷ ds) h (Memᴰ.tail m) = rising_most d.id ds h.1 m
 
@@ -149,6 +152,7 @@ update_absent d c (e ∷ ds) h = go (eqb d e.id) h (update_absent d c ds (omega 
     go false k ih = ap (λ l. e ∷ l) ih
 
 pub update_self : {e : Device} (ds : List Device) → Distinct (ids ds) → Memᴰ e ds → update e.id e.capacity ds ≡ ds
+update_self {e = e} [] u x'' = elim x'' [ ]
 update_self (f ∷ ds) u (Memᴰ.head p) =
     let t = eq-eqb f.id f.id refl in
     rw p

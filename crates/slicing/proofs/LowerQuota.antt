@@ -57,6 +57,7 @@ lead_in x (y ∷ rs) = go (before (next y) (next x)) (λ z. lead_in z rs)
 -- what does not go before x, and what is listed, does not go before the lead
 lead_first : (x : Run Device) (rs : List (Run Device)) → 1 ≤ (holder x).capacity → Positive rs → (v : Run Device) → 1 ≤ (holder v).capacity
     → (before (next v) (next x) ≡ false) ⊎ Memᴰ v rs → before (next v) (next (lead x rs)) ≡ false
+lead_first x [] hx some v hv (inr x7) = elim x7 [ ]
 lead_first x [] hx some v hv (inl h) = h
 lead_first x (z ∷ rs) hx some v hv q =
     go (before (next z) (next x)) refl q (λ w hw. lead_first w rs hw (λ y m. some y (Memᴰ.tail m)) v hv)
@@ -103,6 +104,7 @@ start_total R C (e ∷ ds) = omega (arith, start_total R C ds)
 
 start_in : {x : Run Device} (R C a : ℕ) (ds : List Device) → Rising a ds → Memᴰ x (start R C ds)
     → (points x ≡ floor R C (holder x)) × (1 ≤ (holder x).capacity)
+start_in R C a [] h x3 = elim x3 [ ]
 start_in R C a (e ∷ ds) h (Memᴰ.head p) = rw p (refl, h.0.some)
 start_in R C a (e ∷ ds) h (Memᴰ.tail m) = start_in R C e.id ds h.1 m
 

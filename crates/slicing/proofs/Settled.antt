@@ -42,6 +42,7 @@ Settled rs = (x y : Run Device) → Memᴰ x rs → Memᴰ y rs → before (next
 
 pub in_same : {x y : Run Device} (rs : List (Run Device)) → Distinct (ids (holders rs)) → Memᴰ x rs → Memᴰ y rs
     → (holder x).id ≡ (holder y).id → x ≡ y
+in_same {x = x} {y = y} [] u x5 _ k = elim x5 [ ]
 in_same (z ∷ rs) u (Memᴰ.head p) (Memᴰ.head q) k = p ∙ sym q
 in_same {x} {y} (z ∷ rs) u (Memᴰ.head p) (Memᴰ.tail n) k =
     absurd (member_first (holder z) (holders rs) u (holder y) (Memᴰ.map holder n) (sym k ∙ ap (λ w. (holder w).id) p))
@@ -64,6 +65,7 @@ module _ (n : ℕ) (q : Quotient) where
 
   rank_less : {y : Run Device} (rs : List (Run Device)) → ((x : Run Device) → Memᴰ x rs → ahead n (holder x) q ≤ points x)
       → Memᴰ y rs → ahead n (holder y) q < points y → rank n (holders rs) q < total rs
+  rank_less {y = y} [] h x3 l = elim x3 [ ]
   rank_less ((s of e) ∷ rs) h (Memᴰ.head p) l =
       omega (arith, ap points p, ap (λ z. ahead n (holder z) q) p, rank_most rs (λ x m. h x (Memᴰ.tail m)))
   rank_less ((s of e) ∷ rs) h (Memᴰ.tail m) l =

@@ -3,7 +3,7 @@ ghost use Rattle.slicing_core.specs.Stages.{side, CutTo};
 
 // The points kept in front, taken and kept behind; the flag afterwards, true for 'start'; and whether
 // the gap ends where the next interval begins.
-#[derive(Drop)]
+#[derive(Clone, Copy)]
 pub struct Cut {
     pub front: u64,
     pub gap: u64,

@@ -2,13 +2,15 @@
 //
 // A call that a signal interrupts before it moves a byte is made again, up to INTERRUPTIONS times in a
 // row; the next one is a failure. After a failure `os::errno` says why.
+#![tactic(auto)]
+
 ghost use Rattle.streams.specs.Inputs.{Within};
 
 use libc::EINTR;
 
 pub const INTERRUPTIONS: u32 = 64;
 
-#[derive(Drop)]
+#[derive(Clone, Copy)]
 pub enum Input {
     // So many bytes stand at the start of the buffer. The input ended behind them, or the buffer is full.
     Read(usize),

@@ -15,7 +15,7 @@ const PLACES: usize = 8448;
 const BLANK: u64 = 7;
 
 // The change that a line asks for, with the number of places to lend, or none.
-#[derive(Drop)]
+#[derive(Clone, Copy)]
 enum Asked {
     Change(Call, u64),
     Nothing,

@@ -41,6 +41,8 @@
 // The pool of `pool` has N devices and Q intervals, and in its first places the rows given, of six bytes
 // each as in an image: id and capacity of at most 256 devices, start and owner of at most 4,096 intervals.
 // The other places are 0. `show` leaves out the rows of zeros at the end.
+#![tactic(auto)]
+
 use crate::words::{MOST, is, word};
 use libc::STDOUT_FILENO;
 use pools::Pool;
@@ -62,7 +64,7 @@ mod words;
 const LONGEST: usize = 65536;
 
 // Whether a line was answered, and the pool that is kept afterwards.
-#[derive(Drop)]
+#[derive(Clone, Copy)]
 pub struct Outcome {
     pub answered: bool,
     pub pool: Pool,

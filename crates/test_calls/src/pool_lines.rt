@@ -18,7 +18,7 @@ pub fn fresh(kept: Pool, line: &[u8]) -> Outcome {
 }
 
 // The four numbers of a `pool` line.
-#[derive(Drop)]
+#[derive(Clone, Copy)]
 enum Head {
     Four(u64, u64, u64, u64),
     Bad,

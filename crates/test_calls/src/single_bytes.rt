@@ -5,7 +5,7 @@ use crate::pool_images::is_image;
 use test_text::{end_line, first, narrow8, spaced, wide32};
 
 // How many changed bytes were read and written back, refused with 14, 15, 16, and answered otherwise.
-#[derive(Drop)]
+#[derive(Clone, Copy)]
 struct Tally {
     accepted: u64,
     marks: u64,

@@ -7,7 +7,7 @@ use bytes::scan::find;
 pub const MOST: usize = 32768;
 
 // A word read as a number.
-#[derive(Drop)]
+#[derive(Clone, Copy)]
 pub enum Parsed {
     Number(u64),
     Bad,

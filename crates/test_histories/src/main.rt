@@ -2,6 +2,8 @@
 // for the argument NAME the file NAME.in has the history and NAME.out what `slices` prints of it. Prints
 // each name, and `same`, `different`, or `missing` where one of the two files cannot be read. The files
 // are made from test vectors by tools/test_histories.py. Single lines come first.
+#![tactic(auto)]
+
 ghost use Rattle.std.specs.Prelude.{◌≤◌, length};
 ghost use Rattle.io.specs.Counts.{IsPrefixLen};
 ghost use Rattle.streams.specs.Inputs.{Within};
@@ -15,7 +17,7 @@ mod single_lines;
 // One byte more than the longest transcript that is compared. A file that has so many is different.
 const MOST_EXPECTED: usize = 1048577;
 
-#[derive(Drop)]
+#[derive(Clone, Copy)]
 enum Verdict {
     Same,
     Different,

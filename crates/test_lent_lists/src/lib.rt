@@ -1,4 +1,6 @@
 // The offered changes, each on a list of its own, which is given back by value. For test programs.
+#![tactic(auto)]
+
 ghost use Rattle.std.specs.Prelude.{◌≡◌, min};
 ghost use Rattle.slicing.specs.Changes as Changes;
 ghost use Rattle.packed_runs.specs.Words.{room};
@@ -11,7 +13,7 @@ use placement::{ChangeAnswer, Move};
 use pools::Pool;
 
 // An answer, and the list afterwards: the places that were lent, and blank ones after them.
-#[derive(Drop)]
+#[derive(Clone, Copy)]
 pub struct Lent {
     pub answer: ChangeAnswer,
     pub list: [Move; ROOM],

@@ -1,5 +1,7 @@
 // Prints the refusal number and the digest of the published SHA-1 messages, of messages around every
 // block border up to 200 bytes and of the largest. The expected output was made by `sha1sum`.
+#![tactic(auto)]
+
 use libc::STDOUT_FILENO;
 use test_text::{first, wide32};
 

@@ -1,6 +1,8 @@
 // Reads files, a directory and descriptors that are not open by `streams`, writes to descriptors that take
 // nothing, and sends histories from one to another as `slices` does. Makes its files in the folder that it
 // is run in, and removes them. Prints a line for each case, behind a transcript that the case prints.
+#![tactic(auto)]
+
 use history_streams::Outcome;
 use libc::STDOUT_FILENO;
 use streams::Input;

@@ -1,5 +1,7 @@
 // Lines and numbers for test programs: lines of standard input, numbers of one width as another, and numbers
 // printed.
+#![tactic(auto)]
+
 mod lines;
 mod printing;
 mod widths;

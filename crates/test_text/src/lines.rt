@@ -9,7 +9,7 @@ pub const PIECE: usize = 65536;
 // Where reading stands: the bytes from `at` to `end` of the piece are still to be taken. Of the line: how
 // many of its bytes, or of its numbers, are stored, whether it has more bytes than were stored, and whether
 // it ended; and whether the input ended.
-#[derive(Drop)]
+#[derive(Clone, Copy)]
 pub struct Input {
     pub at: usize,
     pub end: usize,

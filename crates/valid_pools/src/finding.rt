@@ -13,7 +13,7 @@ use slicing::{ABSENT, MAX_ID, OUTSIDE, outside};
 
 // The refusal number or 0, the range, and of the device its capacity, the sum of all capacities, and the
 // points that it has. Refused, zeros beside the number.
-#[derive(Drop)]
+#[derive(Clone, Copy)]
 pub struct Found {
     pub refusal: u32,
     pub range: u64,

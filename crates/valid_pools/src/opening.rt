@@ -15,7 +15,7 @@ use shares::shares;
 use slicing::MAX_DEVICES;
 
 // Whether a pool is valid, and the pool opened where it is.
-#[derive(Drop)]
+#[derive(Clone, Copy)]
 pub struct Checked {
     pub valid: bool,
     pub opened: Opened,

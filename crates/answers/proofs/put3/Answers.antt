@@ -1,0 +1,14 @@
+-- `answers::put3` meets its contract.
+use native.Mathlib.Omega.{arith}
+use lib.ListN.{length-set}
+use borrow.Author.Rules.{rules}
+use Rattle.answers.proofs.FirstPlaces.{put_three}
+use Rattle.answers.proofs.put3.Goals as goal
+
+pub bounds-answer-1 : goal.bounds-answer-1
+bounds-answer-1 c =
+    omega (arith, length-set c.args.answer.now 0 c.args.x)
+
+pub returns : goal.returns
+returns c =
+    put_three c.args.answer.now c.args.x c.args.y c.args.z c.requires

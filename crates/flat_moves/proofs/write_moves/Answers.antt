@@ -1,0 +1,43 @@
+-- `flat_moves::write_moves` meets its contract. The loop's invariant: the moves of the turns passed stand in front, and the rest of the list stays.
+use mathlib.Core.Logic.{⊎_elim}
+use Prim.Native.Nat.{◌-◌}
+use native.Mathlib.Omega.{arith}
+use Rattle.flat_moves.proofs.WrittenMoves.{Listed, listed_none, listed_on, listed_more, listed_end, listed_size, listed_room, listed_points}
+use Rattle.flat_moves.proofs.write_moves.Goals as goal
+
+pub loop-i-init : goal.loop-i-init
+loop-i-init c =
+    listed_none _ _ _ _
+
+pub put_move-requires : goal.put_move-requires
+put_move-requires c =
+    listed_room c.loop-i.invariant c.loop-i-test.true c.if-from-to.true c.requires.2
+
+pub overflow_add-count : goal.overflow_add-count
+overflow_add-count c =
+    omega (
+      arith,
+      listed_room c.loop-i.invariant c.loop-i-test.true c.if-from-to.true c.requires.2,
+      listed_size c.loop-i.invariant c.requires.2,
+    )
+
+pub overflow_add-start : goal.overflow_add-start
+overflow_add-start c =
+    omega (arith, listed_points c.loop-i.invariant c.loop-i-test.true, c.requires.1)
+
+pub loop-i-preserved : goal.loop-i-preserved
+loop-i-preserved c =
+    let w = c.loop-i.invariant in
+    let h = c.loop-i-test.true in
+    ⊎_elim
+    (λ s. rw (s.7, s.8) (listed_more w h s.0.taken s.4.ensures))
+    (λ s. rw (s.1, s.2) (listed_on w h s.0.left))
+    c.if-from-to.branch
+
+pub shape_of-list : goal.shape_of-list
+shape_of-list c =
+    listed_size c.loop-i.invariant c.requires.2
+
+pub returns : goal.returns
+returns c =
+    listed_end c.loop-i.invariant c.loop-i-test.false

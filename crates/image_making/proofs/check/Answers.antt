@@ -1,0 +1,8 @@
+-- `image_making::check` meets its contract.
+use borrow.Author.Rules.{rules}
+use Rattle.images.proofs.OnImages.{on_image_number}
+use Rattle.image_making.proofs.check.Goals as goal
+
+pub returns : goal.returns
+returns c =
+    on_image_number c.args.image.now c.read-made.result c.read-made.ensures

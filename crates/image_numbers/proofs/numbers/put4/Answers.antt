@@ -1,0 +1,17 @@
+-- `image_numbers::numbers::put4` meets its contract: the bytes of the quotient, then those of the remainder.
+use mathlib.Core.Path.{refl, ap, ◌∙◌}
+use mathlib.Core.List.{◌++◌}
+use Prim.Native.Nat.{◌+◌, ◌/◌, ◌%◌}
+use lib.ListN.{take, drop}
+use Rattle.sha1_blocks.specs.Fips180.{bytes}
+use native.Mathlib.Omega.{arith}
+use borrow.Author.Rules.{rules}
+use Rattle.image_numbers.proofs.Fronts.{put_parts, bytes_halves}
+use Rattle.image_numbers.proofs.numbers.put4.Goals as goal
+
+pub returns : goal.returns
+returns c =
+    let a = c.args in
+    let b = a.buffer.now in
+    put_parts b (bytes 2 (a.x / 65536)) (bytes 2 (a.x % 65536)) _ _ a.i 2 2 refl (omega arith) c.put2.ensures c.put2-2.ensures
+    ∙ ap (λ xs. take a.i b ++ xs ++ drop (a.i + 4) b) (bytes_halves 2 a.x)

@@ -1,0 +1,26 @@
+-- `packed_runs::push` meets its contract: its three returns are the three laws of Pushed.
+use Prim.Native.Nat.{◌-◌}
+use native.Mathlib.Omega.{arith}
+use mathlib.Core.Logic.{⊎_elim}
+use borrow.Author.Rules.{rules}
+use Rattle.packed_runs.proofs.Words.{at_total}
+use Rattle.packed_runs.proofs.Pushing.{pushed_none, pushed_more, pushed_put}
+use Rattle.packed_runs.proofs.push.Goals as goal
+
+pub returns-then-size-eq0 : goal.returns-then-size-eq0
+returns-then-size-eq0 c =
+    pushed_none _ _ _ _ c.requires.0 c.if-size-eq0.true
+
+pub overflow_add-into : goal.overflow_add-into
+overflow_add-into c =
+    let a = c.args in
+    omega (arith, at_total a.into.now 0 a.n (a.n - 1) (omega arith) (omega arith), c.requires.1)
+
+pub returns-then-last-label : goal.returns-then-last-label
+returns-then-last-label c =
+    pushed_more _ _ _ _ c.requires.0 (omega (arith, c.if-n-gt0.true)) c.if-last-label.true
+
+pub returns : goal.returns
+returns c =
+    pushed_put _ _ _ _ c.requires.0 (omega (arith, c.if-size-eq0.false)) c.requires.2
+    (⊎_elim (λ w b. w.2.left) (λ w b. absurd (omega arith)) c.if-n-gt0.branch)

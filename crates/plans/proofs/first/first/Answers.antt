@@ -1,0 +1,8 @@
+-- `plans::first::first` meets its contract: the law of the pool that gets its only device.
+use borrow.Author.Rules.{rules}
+use Rattle.plans.proofs.FirstDevices.{planned_only}
+use Rattle.plans.proofs.first.first.Goals as goal
+
+pub returns : goal.returns
+returns c =
+    let a = c.args in let pre = (c.requires.le_range, (c.requires.le_id, c.requires.ids_len)) in record { planned = planned_only a.before a.id a.capacity a.next.now pre.0 pre.1.0 pre.1.1; next_len = search rules }

@@ -1,0 +1,21 @@
+-- `plans::labels::lower` meets its contract. The loop's invariant: the runs passed are renamed, and the others stand as they did.
+use Prim.Native.Nat.{◌-◌}
+use mathlib.Core.Logic.{⊎_elim}
+use native.Mathlib.Omega.{arith}
+use Rattle.plans.specs.Labels.{lowered}
+use Rattle.plans.proofs.LabelSteps.{InPlace, lowered_to, lowered_above, renamed_end, in_place_none, in_place_on, in_place_put}
+use Rattle.plans.proofs.labels.lower.Goals as goal
+
+pub loop-i-init : goal.loop-i-init
+loop-i-init c =
+    in_place_none _ _ _ c.requires.1
+
+pub loop-i-preserved : goal.loop-i-preserved
+loop-i-preserved c =
+    let kept = c.loop-i.invariant in
+    ⊎_elim (λ w. rw w.1 (in_place_put kept _ c.loop-i-test.true c.requires.0 (lowered_above _ _ w.0.taken)))
+    (λ w. rw w.1 (in_place_on kept c.loop-i-test.true (lowered_to _ _ w.0.left))) c.if-run-row.branch
+
+pub returns : goal.returns
+returns c =
+    let kept = c.loop-i.invariant.renamed in record { q_after = renamed_end kept c.loop-i-test.false; table_len = kept.size }

@@ -1,0 +1,14 @@
+-- `plans::labels::raise` meets its contract. The loop's invariant: the runs passed are renamed.
+use Prim.Native.Nat.{◌-◌}
+use native.Mathlib.Omega.{arith}
+use Rattle.plans.specs.Labels.{raised}
+use Rattle.plans.proofs.LabelSteps.{Renamed, renamed_none, renamed_put, renamed_end}
+use Rattle.plans.proofs.labels.raise.Given as goal
+
+abbrev pub invariant-loop-i : goal.invariant-loop-i
+invariant-loop-i l =
+    Renamed (raised l.p) l.table l.into l.q l.i
+
+abbrev pub decreases-loop-i : goal.decreases-loop-i
+decreases-loop-i l =
+    l.q - l.i

@@ -1,0 +1,20 @@
+-- `sha1_digest::message::load` meets its contract. The loop's invariant: the first `t` words of `w` are the block's.
+use mathlib.Core.Path.{◌≡◌, sym, ◌∙◌}
+use Prim.Native.Nat.{◌≤◌, ◌*◌, ◌-◌}
+use native.Mathlib.Numerals.{add-one}
+use native.Mathlib.Omega.{arith}
+use lib.ListN.{length, take, length-set}
+use lib.Seq.{take_all, take-suc-set}
+use borrow.Author.Rules.{rules}
+use Rattle.sha1_blocks.specs.Fips180.{pad, words_from, block}
+use Rattle.sha1_digest.proofs.Blocks.{words_from_suc}
+use Rattle.sha1_blocks.proofs.Padding.{length_pad}
+use Rattle.sha1_digest.proofs.message.load.Given as goal
+
+abbrev pub invariant-loop-t : goal.invariant-loop-t
+invariant-loop-t l =
+    (l.t ≤ 16) × (length l.m ≡ 16) × (take l.t l.m ≡ words_from (pad l.message) (64 * l.i) l.t)
+
+abbrev pub decreases-loop-t : goal.decreases-loop-t
+decreases-loop-t l =
+    16 - l.t

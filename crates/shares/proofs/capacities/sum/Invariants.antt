@@ -1,0 +1,20 @@
+-- `shares::capacities::sum` meets its contract. The loop's invariant: the sum so far and the capacities of the rows left are all
+-- capacities.
+use mathlib.Core.Path.{◌≡◌, ap}
+use Prim.Native.Nat.{◌+◌, ◌-◌, ◌≤◌}
+use native.Mathlib.Nat.{zero-add, sub-zero}
+use native.Mathlib.Omega.{arith}
+use borrow.Author.Rules.{rules}
+use Rattle.slicing.specs.Devices.{capacities as capacities_of}
+use Rattle.slicing_core.specs.Rows.{at, device_rows}
+use Rattle.slicing_core.proofs.Rows.{device_rows_step, device_rows_end}
+use Rattle.shares.proofs.DeviceCapacities.{sum_most}
+use Rattle.shares.proofs.capacities.sum.Given as goal
+
+abbrev pub invariant-loop-i : goal.invariant-loop-i
+invariant-loop-i l =
+    (l.i ≤ l.n) × (l.c + capacities_of (device_rows l.ids l.capacities l.i (l.n - l.i)) ≡ capacities_of (device_rows l.ids l.capacities 0 l.n))
+
+abbrev pub decreases-loop-i : goal.decreases-loop-i
+decreases-loop-i l =
+    l.n - l.i

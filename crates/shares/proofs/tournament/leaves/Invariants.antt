@@ -1,0 +1,18 @@
+-- `shares::tournament::leaves` meets its contract. The loop's invariant: the rows passed stand at their leaves.
+use mathlib.Core.Path.{◌≡◌, ◌∙◌}
+use Prim.Native.Nat.{ℕ, ◌+◌, ◌-◌, ◌≤◌, ◌<◌}
+use native.Mathlib.Omega.{arith}
+use borrow.Author.Count.{below_more}
+use borrow.Author.Rules.{rules}
+use lib.ListN.{length, set, length-set}
+use lib.Seq.{get_or-set_same, get_or-set_other}
+use Rattle.slicing_core.specs.Rows.{at}
+use Rattle.shares.proofs.tournament.leaves.Given as goal
+
+abbrev pub invariant-loop-i : goal.invariant-loop-i
+invariant-loop-i l =
+    (l.i ≤ l.n) × (length l.tree ≡ 512) × ((k : ℕ) → k < l.i → at l.tree (l.n + k) ≡ k)
+
+abbrev pub decreases-loop-i : goal.decreases-loop-i
+decreases-loop-i l =
+    l.n - l.i

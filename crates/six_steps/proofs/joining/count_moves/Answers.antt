@@ -1,0 +1,24 @@
+-- `six_steps::joining::count_moves` meets its contract. The loop's invariant: the moves counted and those of the turns that are left are all.
+use mathlib.Core.Logic.{⊎_elim}
+use Prim.Native.Nat.{◌-◌}
+use native.Mathlib.Omega.{arith}
+use Rattle.six_steps.proofs.CountSteps.{Counted, counted_none, counted_on, counted_more, counted_end}
+use Rattle.six_steps.proofs.joining.count_moves.Goals as goal
+
+pub loop-i-init : goal.loop-i-init
+loop-i-init c =
+    counted_none _ _
+
+pub overflow_add-count : goal.overflow_add-count
+overflow_add-count c =
+    omega (arith, c.loop-i.invariant.few, c.loop-i-test.true, c.requires)
+
+pub loop-i-preserved : goal.loop-i-preserved
+loop-i-preserved c =
+    let w = c.loop-i.invariant in
+    let h = c.loop-i-test.true in
+    ⊎_elim (λ s. rw s.1 (counted_more w h s.0.taken)) (λ s. rw s.1 (counted_on w h s.0.left)) c.if-turn.branch
+
+pub returns : goal.returns
+returns c =
+    counted_end c.loop-i.invariant c.loop-i-test.false

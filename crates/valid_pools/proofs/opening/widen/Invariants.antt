@@ -1,0 +1,14 @@
+-- `valid_pools::opening::widen` meets its contract. The loop's invariant: the first `i` numbers of both columns are copied.
+use Prim.Native.Nat.{◌-◌}
+use native.Mathlib.Omega.{arith}
+use borrow.Author.Rules.{rules}
+use Rattle.valid_pools.proofs.WidenedColumns.{Columns, columns_none, columns_more, widened_to_all}
+use Rattle.valid_pools.proofs.opening.widen.Given as goal
+
+abbrev pub invariant-loop-i : goal.invariant-loop-i
+invariant-loop-i l =
+    Columns l.ids l.values l.n l.into l.beside l.i
+
+abbrev pub decreases-loop-i : goal.decreases-loop-i
+decreases-loop-i l =
+    l.n - l.i

@@ -1,0 +1,13 @@
+-- `valid_pools::reporting::report` meets its contract.
+use borrow.Author.Rules.{rules}
+use Rattle.valid_pools.proofs.FoundDevices.{measured_of}
+use Rattle.valid_pools.proofs.ReportAnswers.{reported_of}
+use Rattle.valid_pools.proofs.reporting.report.Goals as goal
+
+pub report_of-requires : goal.report_of-requires
+report_of-requires c =
+    measured_of c.find_in.ensures
+
+pub returns : goal.returns
+returns c =
+    reported_of c.find_in.ensures _ c.report_of.ensures
