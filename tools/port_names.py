@@ -62,8 +62,21 @@ def declared():
     return found, every
 
 
+OWN = re.compile(r"Rattle\.(?!std\.|core\.|io\.|libc\.|os\.)")
+
+
+def imported(text):
+    """Returns the names that a text imports from a library of the kit."""
+    found = set()
+    for it in re.finditer(r"(?m)^(?:pub |ghost )?use ([^\s;{]+)\.\{([^}]*)\}", text):
+        if not OWN.match(it[1]):
+            found.update(word.split(" as ")[-1].strip() for word in it[2].split(","))
+    return found
+
+
 def turned(text, table, comment):
-    """Turns the code of an antt text; in a comment a bare word turns where the file's code has it."""
+    """Turns the code of an antt text, but for what it imports from a library; in a comment a bare word turns where the file's code has it."""
+    table = {old: new for old, new in table.items() if old not in imported(text)}
     out, words = [], set()
     lines = text.split("\n")
     for line in lines:

@@ -7,7 +7,7 @@
 -- capacityOf: capacity_of_member (a present id with its capacity is a device of the list)
 -- insert: insert_rising, insert_length; delete: delete_rising, delete_length; update: update-ids, update_length, update_rising,
 --   update_self (with the capacity that it has)
-use mathlib.Core.Path.{◌≡◌, refl, sym, ap, ap₂, ◌∙◌}
+use mathlib.Core.Path.{◌≡◌, refl, sym, ap, ap₂, subst, ◌∙◌}
 use mathlib.Core.Bool.{Bool, true, false, cond, ◌||◌, false≢true}
 use mathlib.Core.List.{List, [], ◌∷◌, Memᴰ}
 use Prim.Native.Nat.{ℕ, suc, ◌+◌, ◌≤◌, ◌<◌}
@@ -153,9 +153,9 @@ update_absent d c (e ∷ ds) h = go (eqb d e.id) h (update_absent d c ds (omega 
 
 pub update_self : {e : Device} (ds : List Device) → Distinct (ids ds) → Memᴰ e ds → update e.id e.capacity ds ≡ ds
 update_self {e = e} [] u x'' = elim x'' [ ]
-update_self (f ∷ ds) u (Memᴰ.head p) =
+update_self {e} (f ∷ ds) u (Memᴰ.head p) =
     let t = eq-eqb f.id f.id refl in
-    rw p
+    subst (λ (g : Device). update g.id g.capacity (f ∷ ds) ≡ f ∷ ds) (sym p)
     (ap₂ (λ b l. device f.id (cond b f.capacity f.capacity) ∷ l) t
     (update_absent f.id f.capacity ds (omega (arith, u f.id, ap one t))))
 update_self {e} (f ∷ ds) u (Memᴰ.tail m) =

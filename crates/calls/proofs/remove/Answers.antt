@@ -4,7 +4,7 @@ use mathlib.Core.Bool.{true, false}
 use Prim.Native.Nat.{◌-◌, ◌<◌}
 use native.Mathlib.Omega.{arith}
 use borrow.Author.Rules.{rules}
-use borrow.Author.Tests.{not_true, not-false}
+use borrow.Author.Tests.{not-true, not-false}
 use Rattle.slicing.specs.Devices.{present, delete}
 use Rattle.slicing.specs.Limits.{max_id, outside}
 use Rattle.slicing_core.specs.Rows.{at}
@@ -27,7 +27,7 @@ returns-then-not-held c =
     let known : outside max_id c.args.id ≡ false = sym c.outside.ensures ∙ c.if-outside.false in
     record {
       planned = remove_five c.args.before c.args.table.now c.args.id known
-          (sym (c.find-held.ensures.present c.args.before.capacities) ∙ not_true c.find-held.result.present c.if-not-held.true) c.refused-then-not-held.ensures;
+          (sym (c.find-held.ensures.present c.args.before.capacities) ∙ not-true c.find-held.result.present c.if-not-held.true) c.refused-then-not-held.ensures;
       work_len = (c.requires.1, c.requires.2);
     }
 

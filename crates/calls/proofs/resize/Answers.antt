@@ -5,7 +5,7 @@ use Prim.Native.Nat.{◌<◌}
 use native.Mathlib.Omega.{arith}
 use lib.ListN.{set}
 use borrow.Author.Rules.{rules}
-use borrow.Author.Tests.{not_true, not-false}
+use borrow.Author.Tests.{not-true, not-false}
 use Rattle.slicing.specs.Devices.{device, update, Within}
 use Rattle.slicing.specs.Limits.{device_outside}
 use Rattle.slicing_core.specs.Rows.{at}
@@ -28,7 +28,7 @@ returns-then-not-place c =
     let inside : device_outside c.args.id c.args.capacity ≡ false = sym c.device_outside.ensures ∙ c.if-device_outside.false in
     record {
       planned = resize_five c.args.before c.args.table.now c.args.id c.args.capacity inside
-          (sym (c.find-place.ensures.present c.args.before.capacities) ∙ not_true c.find-place.result.present c.if-not-place.true) c.refused-then-not-place.ensures;
+          (sym (c.find-place.ensures.present c.args.before.capacities) ∙ not-true c.find-place.result.present c.if-not-place.true) c.refused-then-not-place.ensures;
       work_len = (c.requires.1, c.requires.2);
     }
 

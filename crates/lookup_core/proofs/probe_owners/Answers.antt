@@ -5,7 +5,7 @@ use mathlib.Core.Bool.{false}
 use Prim.Native.Nat.{◌-◌}
 use native.Mathlib.Omega.{arith}
 use lib.ListN.{take}
-use borrow.Author.Tests.{not_true, not-false}
+use borrow.Author.Tests.{not-true, not-false}
 use Rattle.lookup_core.specs.Halving.{owner_found, clamped}
 use Rattle.lookup_core.specs.Probes.{member}
 use Rattle.lookup_core.specs.Probing.{owner_of}
@@ -34,7 +34,7 @@ returns-then-found-k c =
     c.owner_found-owner.result ≡ owner_of args.starts.now args.owners.now args.n args.range args.block c.loop-t.t = let args = c.args in
     c.owner_found-owner.ensures.value ∙ ap (owner_found args.starts.now args.owners.now (clamped args.n)) c.probe_point.ensures in
     let unseen : let loop = c.loop-t in
-    member c.owner_found-owner.result (take loop.found loop.list) ≡ false = sym c.chosen.ensures ∙ not_true _ c.if-not-chosen.true in
+    member c.owner_found-owner.result (take loop.found loop.list) ≡ false = sym c.chosen.ensures ∙ not-true _ c.if-not-chosen.true in
     probing_last _ _ _ _ _ _ _ _ _ c.loop-t.invariant _ owner_is (omega (arith, c.loop-t-test.true)) unseen c.if-found-k.true
 
 pub loop-t-preserved-else-found-k : goal.loop-t-preserved-else-found-k
@@ -43,7 +43,7 @@ loop-t-preserved-else-found-k c =
     c.owner_found-owner.result ≡ owner_of args.starts.now args.owners.now args.n args.range args.block c.loop-t.t = let args = c.args in
     c.owner_found-owner.ensures.value ∙ ap (owner_found args.starts.now args.owners.now (clamped args.n)) c.probe_point.ensures in
     let unseen : let loop = c.loop-t in
-    member c.owner_found-owner.result (take loop.found loop.list) ≡ false = sym c.chosen.ensures ∙ not_true _ c.if-not-chosen.true in
+    member c.owner_found-owner.result (take loop.found loop.list) ≡ false = sym c.chosen.ensures ∙ not-true _ c.if-not-chosen.true in
     probing_more _ _ _ _ _ _ _ _ _ c.loop-t.invariant _ owner_is (omega (arith, c.loop-t-test.true)) unseen c.if-found-k.false
 
 pub loop-t-preserved : goal.loop-t-preserved

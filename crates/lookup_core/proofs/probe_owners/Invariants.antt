@@ -5,7 +5,7 @@ use mathlib.Core.Bool.{false}
 use Prim.Native.Nat.{◌-◌}
 use native.Mathlib.Omega.{arith}
 use lib.ListN.{take}
-use borrow.Author.Tests.{not_true, not-false}
+use borrow.Author.Tests.{not-true, not-false}
 use Rattle.lookup_core.specs.Halving.{owner_found, clamped}
 use Rattle.lookup_core.specs.Probes.{member}
 use Rattle.lookup_core.specs.Probing.{owner_of}

@@ -4,7 +4,7 @@ use mathlib.Core.Path.{◌≡◌, subst}
 use mathlib.Core.Bool.{Bool, true}
 use native.Mathlib.Omega.{arith}
 use borrow.Author.Rules.{rules}
-use borrow.Author.Tests.{not_true, not-false}
+use borrow.Author.Tests.{not-true, not-false}
 use Rattle.slicing.specs.Changes.{State, change}
 use Rattle.slicing_core.specs.Stages.{Decides}
 use Rattle.opened.specs.OpenPools.{state_in, Open}
@@ -21,7 +21,7 @@ open-checked-requires c =
 
 pub returns-then-not-checked : goal.returns-then-not-checked
 returns-then-not-checked c =
-    drawn_invalid _ _ _ (rw (not_true c.open-checked.result.valid c.if-not-checked.true) at c.open-checked.ensures.valid) _ c.refused.ensures
+    drawn_invalid _ _ _ (rw (not-true c.open-checked.result.valid c.if-not-checked.true) at c.open-checked.ensures.valid) _ c.refused.ensures
 
 module _ (c : tie.Else1) where
   abbrev opening : tie.After-open

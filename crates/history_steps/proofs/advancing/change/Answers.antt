@@ -4,7 +4,7 @@ use mathlib.Core.Logic.{inl, inr}
 use mathlib.Core.Path.{refl}
 use native.Mathlib.Omega.{arith}
 use borrow.Author.Rules.{rules}
-use borrow.Author.Tests.{not_true, not-false}
+use borrow.Author.Tests.{not-true, not-false}
 use Rattle.history_steps.specs.Advances.{changing}
 use Rattle.history_steps.proofs.AdvancedLines.{line_early, advanced_left, places_length, planned_few, advanced_planned}
 use Rattle.history_steps.proofs.advancing.change.Goals as goal
@@ -13,7 +13,7 @@ pub returns-then-not-begun : goal.returns-then-not-begun
 returns-then-not-begun c =
     let a = c.args in record {
       advanced = advanced_left a.begun a.pool a.table.now c.requires.0 (changing a.call) 3
-          (line_early _ a.call (not_true _ c.if-not-begun.true)) c.refused.result c.refused.ensures;
+          (line_early _ a.call (not-true _ c.if-not-begun.true)) c.refused.result c.refused.ensures;
       work_len = (c.requires.1, c.requires.2);
     }
 

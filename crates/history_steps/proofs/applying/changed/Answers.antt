@@ -4,7 +4,7 @@ use mathlib.Core.Path.{◌≡◌, subst}
 use mathlib.Core.Bool.{Bool, true}
 use native.Mathlib.Omega.{arith}
 use borrow.Author.Rules.{rules}
-use borrow.Author.Tests.{not_true, not-false}
+use borrow.Author.Tests.{not-true, not-false}
 use Rattle.slicing_core.specs.Stages.{Decides}
 use Rattle.pools.specs.Pools.{ValidPool}
 use Rattle.history_steps.proofs.AppliedLines.{line_before, line_invalid, line_declined, line_accepted}
@@ -16,7 +16,7 @@ decided c e = subst (λ (b : Bool). Decides b (ValidPool c.before.before.before.
 
 pub returns-then-not-history : goal.returns-then-not-history
 returns-then-not-history c =
-    line_before _ _ _ c.refused.ensures (not_true _ c.if-not-history.true)
+    line_before _ _ _ c.refused.ensures (not-true _ c.if-not-history.true)
 
 pub open-checked-requires : goal.open-checked-requires
 open-checked-requires c =
@@ -25,7 +25,7 @@ open-checked-requires c =
 pub returns-then-not-checked : goal.returns-then-not-checked
 returns-then-not-checked c =
     let begun : c.args.history.begun ≡ true = not-false _ c.if-not-history.false in
-    line_invalid _ _ _ c.refused-then-not-checked.ensures begun (decided c (not_true c.open-checked.result.valid c.if-not-checked.true))
+    line_invalid _ _ _ c.refused-then-not-checked.ensures begun (decided c (not-true c.open-checked.result.valid c.if-not-checked.true))
 
 pub plan-made-requires : goal.plan-made-requires
 plan-made-requires c =

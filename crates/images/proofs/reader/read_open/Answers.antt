@@ -7,7 +7,7 @@ use Prim.Native.Nat.{ℕ}
 use native.Mathlib.Omega.{arith}
 use lib.ListN.{length}
 use borrow.Author.Rules.{rules}
-use borrow.Author.Tests.{not_true, not-false}
+use borrow.Author.Tests.{not-true, not-false}
 use Rattle.slicing_core.specs.Stages.{Decides}
 use Rattle.packed_runs.specs.Words.{room}
 use Rattle.pools.specs.Pools.{ValidPool, Cleared}
@@ -30,7 +30,7 @@ pub returns-then-not-marked : goal.returns-then-not-marked
 returns-then-not-marked c =
     let m = c.marked in record {
       read = unmarked
-          (sym m.ensures ∙ not_true m.result c.if-not-marked.true) c.refused.ensures;
+          (sym m.ensures ∙ not-true m.result c.if-not-marked.true) c.refused.ensures;
       opened = not_opened 13 c.refused.ensures;
       table_len = c.requires;
     }
@@ -105,7 +105,7 @@ returns-then-not-checked c =
     record {
       read = faulty mark_holds version_holds
           (not_valid (image3 c) c.described-pool.result c.described-pool.ensures
-          (rw (not_true c.open_cleared-checked.result.valid c.if-not-checked.true) at c.open_cleared-checked.ensures.valid))
+          (rw (not-true c.open_cleared-checked.result.valid c.if-not-checked.true) at c.open_cleared-checked.ensures.valid))
           c.refused-then-not-checked.ensures;
       opened = not_opened 15 c.refused-then-not-checked.ensures;
       table_len = c.open_cleared-checked.ensures.table_len;

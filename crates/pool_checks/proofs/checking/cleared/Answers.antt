@@ -2,7 +2,7 @@
 use mathlib.Core.Path.{◌≡◌, sym, ◌∙◌}
 use lib.ListN.{length}
 use borrow.Author.Rules.{rules}
-use borrow.Author.Tests.{not_true, not-false}
+use borrow.Author.Tests.{not-true, not-false}
 use Rattle.pools.specs.Pools.{Cleared, Zeros}
 use Rattle.pool_checks.proofs.Deciding.{decides_iff}
 use Rattle.pool_checks.proofs.checking.cleared.Goals as goal
@@ -15,7 +15,7 @@ unused-requires c =
 
 pub returns-then-not-unused : goal.returns-then-not-unused
 returns-then-not-unused c =
-    λ z. (rw (not_true c.unused.result c.if-not-unused.true) at c.unused.ensures) (z.no_ids, z.no_capacities)
+    λ z. (rw (not-true c.unused.result c.if-not-unused.true) at c.unused.ensures) (z.no_ids, z.no_capacities)
 
 pub unused-requires-2 : goal.unused-requires-2
 unused-requires-2 c =

@@ -2,7 +2,7 @@
 use mathlib.Core.Path.{◌≡◌, sym}
 use native.Mathlib.Omega.{arith}
 use borrow.Author.Rules.{rules}
-use borrow.Author.Tests.{not_true, not-false}
+use borrow.Author.Tests.{not-true, not-false}
 use Rattle.slicing.specs.Devices.{Rising}
 use Rattle.slicing_core.specs.Rows.{device_rows}
 use Rattle.pools.specs.declared.Pool.{Pool}
@@ -16,7 +16,7 @@ pool c = (start (within c)).args.pool
 
 pub returns-then-not-limited : goal.returns-then-not-limited
 returns-then-not-limited c =
-    λ f. (rw (not_true c.limited.result c.if-not-limited.true) at c.limited.ensures) f.limited
+    λ f. (rw (not-true c.limited.result c.if-not-limited.true) at c.limited.ensures) f.limited
 
 pub rising-requires : goal.rising-requires
 rising-requires c =
@@ -27,7 +27,7 @@ pub returns-then-not-rising : goal.returns-then-not-rising
 returns-then-not-rising c =
     λ f.
     let pre = c.requires in
-    (rw (not_true c.rising.result c.if-not-rising.true) at c.rising.ensures)
+    (rw (not-true c.rising.result c.if-not-rising.true) at c.rising.ensures)
     (rising_same c.args.pool.devices (sym pre.1) (sym pre.2) f.rising)
 
 pub returns-then-n-gt0 : goal.returns-then-n-gt0

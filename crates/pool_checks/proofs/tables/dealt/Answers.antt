@@ -5,13 +5,13 @@ use Prim.Native.Nat.{ℕ}
 use native.Mathlib.Omega.{arith}
 use lib.ListN.{length-replicate}
 use borrow.Author.Rules.{rules}
-use borrow.Author.Tests.{not_true, not-false}
+use borrow.Author.Tests.{not-true, not-false}
 use Rattle.pool_checks.proofs.DealtTables.{rows_labels, rows_points, dealt_rows, dealt_refused}
 use Rattle.pool_checks.proofs.tables.dealt.Goals as goal
 
 pub returns-then-not-rows_of : goal.returns-then-not-rows_of
 returns-then-not-rows_of c =
-    record { fair = dealt_refused (rw (not_true c.rows_of.result c.if-not-rows_of.true) at c.rows_of.ensures.rows_of); rows = λ e. absurd (true≢false (sym e)); has_len = (length-replicate {A = ℕ} 256 0, c.rows_of.ensures.table_len) }
+    record { fair = dealt_refused (rw (not-true c.rows_of.result c.if-not-rows_of.true) at c.rows_of.ensures.rows_of); rows = λ e. absurd (true≢false (sym e)); has_len = (length-replicate {A = ℕ} 256 0, c.rows_of.ensures.table_len) }
 
 pub held-has-requires : goal.held-has-requires
 held-has-requires c =

@@ -4,7 +4,7 @@ use Prim.Native.Nat.{◌-◌}
 use native.Mathlib.Omega.{arith}
 use lib.Dec.{eqb}
 use borrow.Author.Rules.{rules}
-use borrow.Author.Tests.{not_true, not-false}
+use borrow.Author.Tests.{not-true, not-false}
 use Rattle.slicing.specs.Devices.{present}
 use Rattle.slicing_core.specs.Rows.{at, device_rows}
 use Rattle.pool_checks.proofs.RowSteps.{Rowing, rowing_none, rowing_short, rowing_unknown, rowing_step, rows_first, rows_none}
@@ -31,7 +31,7 @@ pub returns-then-not-place : goal.returns-then-not-place
 returns-then-not-place c =
     let inv = c.loop-i.invariant in let args = c.args in record {
       rows_of = rowing_unknown inv c.loop-i-test.true c.length_at-size.ensures c.if-size-eq0.false
-          (λ cs. sym (not_true c.find-place.result.present c.if-not-place.true) ∙ c.find-place.ensures.present cs
+          (λ cs. sym (not-true c.find-place.result.present c.if-not-place.true) ∙ c.find-place.ensures.present cs
           ∙ ap (λ x. present x (device_rows args.ids.now cs 0 args.n)) c.wide_id.ensures);
       table_len = inv.size;
     }

@@ -4,7 +4,7 @@ use mathlib.Core.Bool.{true, false}
 use Prim.Native.Nat.{◌<◌}
 use native.Mathlib.Omega.{arith}
 use borrow.Author.Rules.{rules}
-use borrow.Author.Tests.{not_true, not-false}
+use borrow.Author.Tests.{not-true, not-false}
 use Rattle.slicing.specs.Limits.{max_id, outside}
 use Rattle.opened.proofs.OpenPools.{open_few, open_rising, open_ascending}
 use Rattle.valid_pools.proofs.FoundDevices.{found_two, found_five, found_present}
@@ -22,7 +22,7 @@ pub returns-then-not-place : goal.returns-then-not-place
 returns-then-not-place c =
     let admitted : outside max_id c.args.id ≡ false = sym c.outside.ensures ∙ c.if-outside.false in
     rw c.not_found-then-not-place.ensures
-    (found_five _ _ (admitted) (sym (c.find-place.ensures.present _) ∙ not_true c.find-place.result.present c.if-not-place.true))
+    (found_five _ _ (admitted) (sym (c.find-place.ensures.present _) ∙ not-true c.find-place.result.present c.if-not-place.true))
 
 pub sum-requires : goal.sum-requires
 sum-requires c =

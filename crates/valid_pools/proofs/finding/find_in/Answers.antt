@@ -2,7 +2,7 @@
 use mathlib.Core.Path.{◌≡◌, ap, ◌∙◌}
 use mathlib.Core.Bool.{true}
 use borrow.Author.Rules.{rules}
-use borrow.Author.Tests.{not_true, not-false}
+use borrow.Author.Tests.{not-true, not-false}
 use Rattle.slicing.specs.Changes.{State}
 use Rattle.valid_pools.specs.Finding.{found_of, found, invalid}
 use Rattle.valid_pools.proofs.finding.find_in.Goals as goal
@@ -14,7 +14,7 @@ open-checked-requires c =
 pub returns-then-not-checked : goal.returns-then-not-checked
 returns-then-not-checked c =
     let o = c.open-checked in
-    invalid (rw (not_true o.result.valid c.if-not-checked.true) at o.ensures.0) c.not_found.ensures
+    invalid (rw (not-true o.result.valid c.if-not-checked.true) at o.ensures.0) c.not_found.ensures
 
 pub find_device-requires : goal.find_device-requires
 find_device-requires c =

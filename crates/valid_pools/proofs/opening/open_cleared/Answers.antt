@@ -5,7 +5,7 @@ use Prim.Native.Nat.{ℕ, ◌≤◌}
 use native.Mathlib.Omega.{arith}
 use lib.ListN.{length, length-replicate}
 use borrow.Author.Rules.{rules}
-use borrow.Author.Tests.{not_true, not-false}
+use borrow.Author.Tests.{not-true, not-false}
 use Rattle.pools.specs.declared.Pool.{Pool}
 use Rattle.pools.specs.Pools.{Formed}
 use Rattle.valid_pools.specs.Opening.{Entered}
@@ -28,7 +28,7 @@ formed-requires c =
 
 pub returns-then-not-formed : goal.returns-then-not-formed
 returns-then-not-formed c =
-    record { valid = λ v. (rw (not_true c.formed.result c.if-not-formed.true) at c.formed.ensures) (valid_formed _ v); opened = λ e. absurd (true≢false (sym e)); table_len = c.requires.1 }
+    record { valid = λ v. (rw (not-true c.formed.result c.if-not-formed.true) at c.formed.ensures) (valid_formed _ v); opened = λ e. absurd (true≢false (sym e)); table_len = c.requires.1 }
 
 pub returns-then-n-eq0 : goal.returns-then-n-eq0
 returns-then-n-eq0 c =
