@@ -17,7 +17,7 @@ loop-i-init c =
     (omega arith, simp sub-zero (λ h. h), simp sub-zero (λ h. h))
 
 pub returns-then-id-last : goal.returns-then-id-last
-returns-then-id-last c =
+returns-then-id-last c h =
     let row : let args = c.args in let pass = c.loop-i in
     Rising 0 (device_rows args.ids.now args.capacities.now 0 args.n)
     → Within pass.last (device (at args.ids.now pass.i) (at args.capacities.now pass.i))
@@ -25,7 +25,7 @@ returns-then-id-last c =
     omega (arith, (row h).0.above)
 
 pub returns-then-id-gt-MAX_ID : goal.returns-then-id-gt-MAX_ID
-returns-then-id-gt-MAX_ID c =
+returns-then-id-gt-MAX_ID c h =
     let row : let args = c.args in let pass = c.loop-i in
     Rising 0 (device_rows args.ids.now args.capacities.now 0 args.n)
     → Within pass.last (device (at args.ids.now pass.i) (at args.capacities.now pass.i))
@@ -33,7 +33,7 @@ returns-then-id-gt-MAX_ID c =
     omega (arith, (row h).0.known)
 
 pub returns-then-outside : goal.returns-then-outside
-returns-then-outside c =
+returns-then-outside c h =
     let row : let args = c.args in let pass = c.loop-i in
     Rising 0 (device_rows args.ids.now args.capacities.now 0 args.n)
     → Within pass.last (device (at args.ids.now pass.i) (at args.capacities.now pass.i))
