@@ -1,11 +1,12 @@
 -- What a change on a list of its own promises, from the list that was lent and the list that came back.
+--     blanks_size         a blank list has as many places as a change can have moves
 --     lends_front_of      the list afterwards is what came back, and the places that were not lent
 --     lends_called        a call is the change that it asks for
 use mathlib.Core.Path.{◌≡◌, sym, ◌∙◌, ap, subst}
 use Prim.Native.Nat.{ℕ, ◌≤◌, min}
 use native.Mathlib.Nat.{min-le_right}
 use mathlib.Core.List.{List, ◌++◌}
-use lib.ListN.{length, take, drop}
+use lib.ListN.{length, take, drop, length-replicate}
 use lib.Seq.{length-take-le, take-append_seam}
 use Rattle.calls.specs.declared.Call.{Call}
 use Rattle.placement.specs.declared.ChangeAnswer.{ChangeAnswer}
@@ -17,6 +18,9 @@ use Rattle.placement.specs.Promises.{Changed}
 use Rattle.placement.specs.declared.Move.{Move}
 use Rattle.test_lent_lists.specs.Promises.{blanks, Lends}
 use Rattle.test_lent_lists.specs.declared.Lent.{Lent}
+
+pub blanks_size : (xs : List Move) → xs ≡ blanks → length xs ≡ room
+blanks_size xs e = ap length e ∙ length-replicate room _
 
 -- the list that came back is the first part of the whole
 first_part : (n : ℕ) (xs zs : List Move) → n ≤ length xs → length zs ≡ length (take n xs) → take n (zs ++ drop n xs) ≡ zs
