@@ -6,7 +6,7 @@ use mathlib.Core.Path.{◌≡◌, sym, ◌∙◌, ap, subst}
 use Prim.Native.Nat.{ℕ, ◌≤◌, min}
 use native.Mathlib.Nat.{min-le_right}
 use mathlib.Core.List.{List, ◌++◌}
-use lib.ListN.{length, take, drop, length-replicate}
+use lib.ListN.{length, take, drop, replicate, length-replicate}
 use lib.Seq.{length-take-le, take-append_seam}
 use Rattle.calls.specs.declared.Call.{Call}
 use Rattle.placement.specs.declared.ChangeAnswer.{ChangeAnswer}
@@ -19,8 +19,11 @@ use Rattle.placement.specs.declared.Move.{Move}
 use Rattle.test_lent_lists.specs.Promises.{blanks, Lends}
 use Rattle.test_lent_lists.specs.declared.Lent.{Lent}
 
+copies_size : (n : ℕ) (m : Move) (xs : List Move) → xs ≡ replicate n m → length xs ≡ n
+copies_size n m xs e = ap length e ∙ length-replicate n m
+
 pub blanks_size : (xs : List Move) → xs ≡ blanks → length xs ≡ room
-blanks_size xs e = ap length e ∙ length-replicate room _
+blanks_size xs e = copies_size room (record { start = 7; length = 7; from = 7; to = 7 }) xs e
 
 -- the list that came back is the first part of the whole
 first_part : (n : ℕ) (xs zs : List Move) → n ≤ length xs → length zs ≡ length (take n xs) → take n (zs ++ drop n xs) ≡ zs
