@@ -38,5 +38,5 @@ put3-requires-2 c =
 pub returns : goal.returns
 returns c =
     change_done c.requires.0 (change_of c.args.call) c.args.list.now c.plan-made.ensures.planned c.if-made-gt0.false c.close-pool.ensures
-    c.args.next.now c.store.ensures.answer c.store.ensures.buffer c.args.answer.now c.size-1.given.1 c.write_moves.ensures
+    c.args.next.now c.store.ensures.answer c.store.ensures.buffer c.args.answer.now c.in-Written.is c.write_moves.ensures
     c.put3-2.ensures

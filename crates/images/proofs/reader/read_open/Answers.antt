@@ -2,6 +2,7 @@
 -- opened.
 use mathlib.Core.Path.{sym, subst}
 use native.Mathlib.Omega.{arith}
+use borrow.Author.Tests.{not-true, not-false}
 use Rattle.pools.specs.Pools.{Cleared}
 use Rattle.images.specs.Promises.{unmarked, versioned, faulty}
 use Rattle.images.proofs.PoolsRead.{pool_in_cleared}
@@ -47,12 +48,12 @@ open_cleared-checked-requires c =
 
 pub returns-then-not-checked-clause-read : goal.returns-then-not-checked-clause-read
 returns-then-not-checked-clause-read c =
-    faulty (cc) (cc) (not_valid _ _ c.described-pool.ensures (rw c.if-not-checked.true at c.open_cleared-checked.ensures.valid))
+    faulty (cc) (cc) (not_valid _ _ c.described-pool.ensures (rw (not-true _ c.if-not-checked.true) at c.open_cleared-checked.ensures.valid))
         c.refused-then-not-checked.ensures
 
 pub returns-clause-read : goal.returns-clause-read
 returns-clause-read c =
     read_whole _ (cc) (cc)
         (sound _ _ _ _ c.number2-n.ensures.0 c.number2-q.ensures.0 c.if-image-n.false c.described-pool.ensures
-            (rw c.if-not-checked.false at c.open_cleared-checked.ensures.valid))
+            (rw (not-false _ c.if-not-checked.false) at c.open_cleared-checked.ensures.valid))
         _ c.described-pool.ensures
