@@ -30,8 +30,8 @@ loop-i-preserved c =
     let w = c.loop-i.invariant in
     let h = c.loop-i-test.true in
     elim c.if-from-to.branch [
-      then-from-to s ↦ rw (s.count-is, s.list-is) (listed_more w h s.if-from-to.true s.put_move.ensures)
-    | else-from-to s ↦ rw (s.count-is, s.list-is) (listed_on w h s.if-from-to.false)
+      | then-from-to s ↦ rw (s.count-is, s.list-is) (listed_more w h s.if-from-to.true s.put_move.ensures)
+      | else-from-to s ↦ rw (s.count-is, s.list-is) (listed_on w h s.if-from-to.false)
     ]
 
 pub shape_of-list : goal.shape_of-list

@@ -1,5 +1,4 @@
 -- `images::reader::described` meets its contract: the numbers of the head and the columns of the rows are those of the bytes.
-use borrow.Author.Rules.{rules}
 use Rattle.images.proofs.PoolsRead.{described_pool}
 use Rattle.images.proofs.reader.described.Goals as goal
 

@@ -6,7 +6,7 @@ use borrow.Author.Tests.{not-true, not-false}
 use Rattle.pools.specs.Pools.{Cleared}
 use Rattle.images.specs.Promises.{unmarked, versioned, faulty}
 use Rattle.images.proofs.PoolsRead.{pool_in_cleared}
-use Rattle.images.proofs.ReadAnswers.{marked_size, many_devices, many_intervals, another_size, not_valid, sound, read_whole, not_opened}
+use Rattle.images.proofs.ReadAnswers.{marked_size, many_devices, many_intervals, another_size, not_valid, sound, read_whole}
 use Rattle.images.proofs.reader.read_open.Goals as goal
 
 pub returns-then-not-marked-clause-read : goal.returns-then-not-marked-clause-read
@@ -40,7 +40,7 @@ returns-then-q-gt-MAX_INTERVALS-clause-read c =
 pub returns-then-image-n-clause-read : goal.returns-then-image-n-clause-read
 returns-then-image-n-clause-read c =
     faulty (cc) (cc) (another_size _ _ _ c.number2-n.ensures.0 c.number2-q.ensures.0 (λ e. omega (arith, e, c.if-image-n.true)))
-        c.refused-then-image-n.ensures
+    c.refused-then-image-n.ensures
 
 pub open_cleared-checked-requires : goal.open_cleared-checked-requires
 open_cleared-checked-requires c =
@@ -49,11 +49,11 @@ open_cleared-checked-requires c =
 pub returns-then-not-checked-clause-read : goal.returns-then-not-checked-clause-read
 returns-then-not-checked-clause-read c =
     faulty (cc) (cc) (not_valid _ _ c.described-pool.ensures (rw (not-true _ c.if-not-checked.true) at c.open_cleared-checked.ensures.valid))
-        c.refused-then-not-checked.ensures
+    c.refused-then-not-checked.ensures
 
 pub returns-clause-read : goal.returns-clause-read
 returns-clause-read c =
     read_whole _ (cc) (cc)
-        (sound _ _ _ _ c.number2-n.ensures.0 c.number2-q.ensures.0 c.if-image-n.false c.described-pool.ensures
-            (rw (not-false _ c.if-not-checked.false) at c.open_cleared-checked.ensures.valid))
-        _ c.described-pool.ensures
+    (sound _ _ _ _ c.number2-n.ensures.0 c.number2-q.ensures.0 c.if-image-n.false c.described-pool.ensures
+    (rw (not-false _ c.if-not-checked.false) at c.open_cleared-checked.ensures.valid))
+    _ c.described-pool.ensures

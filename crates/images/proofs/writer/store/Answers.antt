@@ -1,7 +1,6 @@
 -- `images::writer::store` meets its contract: 17, then the image.
 use Prim.Native.Nat.{◌+◌, ◌*◌, ◌<◌, ◌^◌}
 use native.Mathlib.Omega.{arith}
-use borrow.Author.Rules.{rules}
 use Rattle.pools.specs.Pools.{ValidPool}
 use Rattle.pools.specs.declared.Pool.{Pool}
 use Rattle.pools.proofs.ValidParts.{valid_limited}

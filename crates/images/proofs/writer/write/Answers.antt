@@ -1,7 +1,4 @@
 -- `images::writer::write` meets its contract: 2, then what `store` answers.
-use borrow.Author.Rules.{rules}
-use borrow.Author.Tests.{not-true, not-false}
-use Rattle.pools.specs.Pools.{ValidPool}
 use Rattle.images.proofs.WriteAnswers.{written_invalid, written_valid}
 use Rattle.images.proofs.writer.write.Goals as goal
 
