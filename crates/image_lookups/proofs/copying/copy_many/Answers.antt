@@ -29,9 +29,9 @@ pub loop-i-preserved : goal.loop-i-preserved
 loop-i-preserved c =
     let l = c.loop-i in
     let r = c.copies_in-answer.result in
-    let eight : length r.owners ≡ 8 = length_unmapped ℕ r.owners 8 c.copies_in-answer.type-inv.1.1.1.0.1.0.1 in
+    let eight : length r.owners ≡ 8 = search rules in
     many_more (state_of c.args.pool) c.args.k c.args.blocks.now c.args.rows.now c.args.counters l.rows l.after l.i l.invariant c.loop-i-test.true c.requires.1 r eight
-    (answered_arrays c.args.pool c.requires.0 (get_or c.args.blocks.now l.i 0) c.args.k l.after r c.copies_in-answer.ensures) c.put_row.new.row c.put_row.auto.0 c.put_row.ensures
+    (answered_arrays c.args.pool c.requires.0 (get_or c.args.blocks.now l.i 0) c.args.k l.after r c.copies_in-answer.ensures) c.put_row.new.row c.put_row.auto.row c.put_row.ensures
 
 pub shape_of-rows : goal.shape_of-rows
 shape_of-rows c =
