@@ -1,10 +1,6 @@
 -- `lookup_core::chosen` meets its contract. The loop's invariant: the owner is among the first n where it is among those from `i` on.
-use mathlib.Core.Path.{◌≡◌, refl, sym, ◌∙◌}
-use Prim.Native.Nat.{◌-◌, ◌≤◌}
+use mathlib.Core.Path.{refl, sym, ◌∙◌}
 use native.Mathlib.Omega.{arith}
-use lib.ListN.{take}
-use lib.Seq.{slice}
-use Rattle.lookup_core.specs.Probes.{member}
 use Rattle.lookup_core.proofs.ProbeSteps.{member_here, member_next, member_end}
 use Rattle.lookup_core.proofs.chosen.Goals as goal
 

@@ -19,13 +19,9 @@ returns-then-made-gt0 c =
 
 pub find_device-requires : goal.find_device-requires
 find_device-requires c =
-    let opened : let r = c.read_open-made in
-    Open r.result.opened r.new.1.0 × (state_in r.result.opened r.new.1.0 ≡ state_of r.result.pool) = c.read_open-made.ensures.opened (omega (arith, c.if-made-gt0.false)) in
-    opened.0
+    (c.read_open-made.ensures.opened (omega arith)).0
 
 pub returns : goal.returns
 returns c =
-    let opened : let r = c.read_open-made in
-    Open r.result.opened r.new.1.0 × (state_in r.result.opened r.new.1.0 ≡ state_of r.result.pool) = c.read_open-made.ensures.opened (omega (arith, c.if-made-gt0.false)) in
     let a = c.args in
-    found_told a.image.now a.id (answer_of c.read_open-made.result) c.read_open-made.ensures.read _ c.if-made-gt0.false _ opened.1 c.find_device.ensures
+    found_told a.image.now a.id (answer_of c.read_open-made.result) c.read_open-made.ensures.read _ c.if-made-gt0.false _ (c.read_open-made.ensures.opened (omega arith)).1 c.find_device.ensures

@@ -15,6 +15,7 @@ use Rattle.image_rows.proofs.rows.put_devices.Given as goal
 abbrev pub invariant-loop-i : goal.invariant-loop-i
 invariant-loop-i l =
     (l.i ≤ l.opened.devices) × (length l.rows ≡ length l.initial.rows)
+    × (l.opened.devices ≤ 256)
     × (l.rows ≡ devices_with (share_of l.opened.range (devices_in l.opened)) (device_rows l.opened.ids l.opened.capacities 0 l.i) ++ drop (3 * l.i) l.initial.rows)
 
 abbrev pub decreases-loop-i : goal.decreases-loop-i

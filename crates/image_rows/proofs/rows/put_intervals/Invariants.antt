@@ -17,6 +17,7 @@ use Rattle.image_rows.proofs.rows.put_intervals.Given as goal
 abbrev pub invariant-loop-i : goal.invariant-loop-i
 invariant-loop-i l =
     (l.i ≤ l.opened.intervals) × (length l.rows ≡ length l.initial.rows) × (l.start ≡ total (runs l.table 0 l.i))
+    × (l.opened.intervals ≤ 4096)
     × (l.rows ≡ intervals_as (intervals 0 (relabel (at l.opened.ids) (runs l.table 0 l.i))) ++ drop (3 * l.i) l.initial.rows)
 
 abbrev pub decreases-loop-i : goal.decreases-loop-i

@@ -12,10 +12,10 @@ put_owners-requires c =
 
 pub shape_of-row : goal.shape_of-row
 shape_of-row c =
-    simp length-set (c.put_owners.auto.0 ∙ simp length-set)
+    simp length-set (c.put_owners.auto.row ∙ simp length-set)
 
 pub returns : goal.returns
 returns c =
     let p = c.put_owners in
     let l : length c.args.answer.owners ≡ 8 = search rules in
-    put_row c.args.row.now c.args.answer.owners p.new.0 c.args.answer.refusal c.args.answer.probes l c.requires p.ensures
+    put_row c.args.row.now c.args.answer.owners p.new.row c.args.answer.refusal c.args.answer.probes l c.requires p.ensures
