@@ -1,9 +1,7 @@
 -- `opened_lookups::copy_table` meets its contract. The loop's invariant: the first i places of both arrays are copied, and the rest is as it was.
-use mathlib.Core.Path.{◌≡◌, refl, ◌∙◌}
-use Prim.Native.Nat.{◌-◌, ◌≤◌}
+use mathlib.Core.Path.{refl, ◌∙◌}
 use native.Mathlib.Omega.{arith}
-use lib.ListN.{length, get_or, length-set}
-use lib.Seq.{paste}
+use lib.ListN.{get_or, length-set}
 use Rattle.opened_lookups.proofs.OpenedPools.{array_put, array_all}
 use Rattle.opened_lookups.proofs.copy_table.Goals as goal
 

@@ -1,11 +1,10 @@
 -- `image_lookups::copying::copy_many` meets its contract. The loop's invariant: the rows and the counters of the first i blocks.
 use mathlib.Core.Path.{◌≡◌}
-use Prim.Native.Nat.{ℕ, ◌+◌, ◌*◌, ◌-◌, ◌^◌, ◌≤◌, ◌<◌}
 use native.Mathlib.Omega.{arith}
 use lib.ListN.{length, get_or}
-use borrow.Author.Rules.{rules, length_unmapped}
+use borrow.Author.Rules.{rules}
 use Rattle.pools.specs.Pools.{state_of}
-use Rattle.image_lookups.proofs.CopiedRows.{answered_arrays, Many, many_none, many_room, many_more, many_all}
+use Rattle.image_lookups.proofs.CopiedRows.{answered_arrays, many_none, many_room, many_more, many_all}
 use Rattle.image_lookups.proofs.copying.copy_many.Goals as goal
 
 pub loop-i-init : goal.loop-i-init

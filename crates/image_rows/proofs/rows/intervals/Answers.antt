@@ -1,9 +1,5 @@
 -- `image_rows::rows::intervals` meets its contract.
-use mathlib.Core.Path.{◌≡◌}
 use native.Mathlib.Omega.{arith}
-use borrow.Author.Rules.{rules}
-use Rattle.opened.specs.OpenPools.{state_in, Open}
-use Rattle.pools.specs.Pools.{state_of}
 use Rattle.images.specs.Promises.{answer_of}
 use Rattle.image_rows.specs.Promises.{interval_numbers}
 use Rattle.image_rows.proofs.ToldPools.{listed_refused, listed_short, listed_told, length_interval_numbers}
@@ -20,10 +16,6 @@ returns-then-rows-opened c =
     let h = c.read_open-made.ensures.opened (omega arith) in
     listed_short interval_numbers a.image.now a.rows.now (answer_of c.read_open-made.result) c.read_open-made.ensures.read c.if-made-gt0.false
     _ h.1 _ (length_interval_numbers h.0) c.if-rows-opened.true
-
-pub put_intervals-requires : goal.put_intervals-requires
-put_intervals-requires c =
-    ((c.read_open-made.ensures.opened (omega arith)).0, omega (arith, c.if-rows-opened.false))
 
 pub returns : goal.returns
 returns c =

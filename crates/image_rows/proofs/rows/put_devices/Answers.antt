@@ -1,9 +1,9 @@
 -- `image_rows::rows::put_devices` meets its contract. The loop's invariant: the first i rows are written, and the rest is as it was.
 use mathlib.Core.Path.{◌≡◌, refl, subst}
 use mathlib.Core.List.{◌++◌}
-use Prim.Native.Nat.{ℕ, ◌*◌, ◌-◌, ◌≤◌, ◌<◌}
+use Prim.Native.Nat.{ℕ, ◌*◌}
 use native.Mathlib.Omega.{arith}
-use lib.ListN.{length, drop}
+use lib.ListN.{drop}
 use Rattle.slicing.specs.ShareRule.{share_of}
 use Rattle.slicing_core.specs.Rows.{device_rows}
 use Rattle.opened.specs.OpenPools.{devices_in}
@@ -16,14 +16,6 @@ pub loop-i-init : goal.loop-i-init
 loop-i-init c =
     (omega arith, refl, open_few c.requires.0, refl)
 
-pub put_row-requires : goal.put_row-requires
-put_row-requires c =
-    omega (arith, c.loop-i-test.true, c.loop-i.invariant.1, c.requires.1)
-
-pub loop-i-smaller : goal.loop-i-smaller
-loop-i-smaller c =
-    omega (arith, c.loop-i-test.true)
-
 pub loop-i-preserved : goal.loop-i-preserved
 loop-i-preserved c =
     let o = c.args.opened in (
@@ -33,10 +25,6 @@ loop-i-preserved c =
       devices_put (share_of o.range (devices_in o)) o.ids o.capacities c.args.rows.now _ _ c.loop-i.i _
           (open_share c.requires.0 c.loop-i.i c.loop-i-test.true) c.loop-i.invariant.3 c.put_row.ensures,
     )
-
-pub shape_of-rows : goal.shape_of-rows
-shape_of-rows c =
-    c.loop-i.invariant.1
 
 pub returns : goal.returns
 returns c =

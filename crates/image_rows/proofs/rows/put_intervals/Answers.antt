@@ -2,10 +2,10 @@
 -- the next interval starts behind them.
 use mathlib.Core.Path.{◌≡◌, refl, ap, ◌∙◌, subst}
 use mathlib.Core.List.{◌++◌}
-use Prim.Native.Nat.{ℕ, ◌+◌, ◌*◌, ◌-◌, ◌/◌, ◌%◌, ◌≤◌, ◌<◌}
+use Prim.Native.Nat.{ℕ, ◌+◌, ◌*◌, ◌/◌}
 use native.Mathlib.Omega.{arith}
-use lib.ListN.{length, drop}
-use Rattle.slicing.specs.Runs.{total, relabel, intervals}
+use lib.ListN.{drop}
+use Rattle.slicing.specs.Runs.{relabel, intervals}
 use Rattle.slicing_core.specs.Rows.{at}
 use Rattle.packed_runs.specs.Words.{runs}
 use Rattle.opened.proofs.OpenPools.{open_few, open_intervals, open_points}
@@ -18,14 +18,6 @@ pub loop-i-init : goal.loop-i-init
 loop-i-init c =
     (omega arith, refl, refl, open_intervals c.requires.0, refl)
 
-pub put_row-requires : goal.put_row-requires
-put_row-requires c =
-    omega (arith, c.loop-i-test.true, c.loop-i.invariant.1, c.requires.1)
-
-pub loop-i-smaller : goal.loop-i-smaller
-loop-i-smaller c =
-    omega (arith, c.loop-i-test.true)
-
 pub loop-i-preserved : goal.loop-i-preserved
 loop-i-preserved c =
     let o = c.args.opened in (
@@ -36,10 +28,6 @@ loop-i-preserved c =
       intervals_put (at o.ids) c.args.table.now c.args.rows.now _ _ c.loop-i.i c.loop-i.start c.loop-i.invariant.2
           c.loop-i.invariant.4 c.put_row.ensures,
     )
-
-pub shape_of-rows : goal.shape_of-rows
-shape_of-rows c =
-    c.loop-i.invariant.1
 
 pub returns : goal.returns
 returns c =

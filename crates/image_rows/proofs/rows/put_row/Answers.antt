@@ -2,7 +2,6 @@
 use Prim.Native.Nat.{◌+◌, ◌*◌}
 use native.Mathlib.Omega.{arith}
 use lib.ListN.{set, length-set}
-use borrow.Author.Rules.{rules}
 use Rattle.image_rows.proofs.ThreeNumbers.{set_three}
 use Rattle.image_rows.proofs.rows.put_row.Goals as goal
 
