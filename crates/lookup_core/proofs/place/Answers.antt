@@ -7,10 +7,6 @@ pub loop-lo-init : goal.loop-lo-init
 loop-lo-init c =
     halved_all _ _ _ c.requires.0
 
-pub wide_start-requires : goal.wide_start-requires
-wide_start-requires c =
-    tt
-
 pub loop-lo-preserved-then-wide_start-point : goal.loop-lo-preserved-then-wide_start-point
 loop-lo-preserved-then-wide_start-point c =
     halved_up _ _ _ _ _ c.loop-lo.invariant (omega (arith, c.loop-lo-test.true)) (omega arith)

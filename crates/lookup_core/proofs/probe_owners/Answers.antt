@@ -18,14 +18,6 @@ pub loop-t-init : goal.loop-t-init
 loop-t-init c =
     probing_start _ _ _ _ _ _ c.requires.0 c.requires.1
 
-pub probe_point-requires : goal.probe_point-requires
-probe_point-requires c =
-    c.requires.2
-
-pub owner_found-owner-requires : goal.owner_found-owner-requires
-owner_found-owner-requires c =
-    tt
-
 pub chosen-requires : goal.chosen-requires
 chosen-requires c =
     (omega arith, probing_size _ _ _ _ _ _ _ _ _ c.loop-t.invariant)

@@ -1,7 +1,6 @@
 -- `lookup_numbers::copies::put_refusal` meets its contract.
 use mathlib.Core.Path.{◌∙◌}
 use lib.ListN.{length-set}
-use borrow.Author.Rules.{rules}
 use Rattle.lookup_numbers.proofs.PutNumbers.{put_zeros}
 use Rattle.lookup_numbers.proofs.copies.put_refusal.Goals as goal
 

@@ -1,5 +1,4 @@
 -- `lookup_numbers::owners::put_owner` meets its contract.
-use borrow.Author.Rules.{rules}
 use Rattle.lookup_numbers.proofs.PutNumbers.{told_owner, told_none}
 use Rattle.lookup_numbers.proofs.owners.put_owner.Goals as goal
 
