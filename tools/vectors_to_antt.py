@@ -99,31 +99,31 @@ def history(path):
 HEAD = """-- The definitions against the outside: changes made by a reference program that was written from the documents alone, computed
 -- here and compared. Written by tools/vectors_to_antt.py.
 --
---   direct-calls    the adds, removes and resizes of calls.in and own.in, with the whole answer
---   direct-reports  their reports, with the whole answer
+--   direct_calls    the adds, removes and resizes of calls.in and own.in, with the whole answer
+--   direct_reports  their reports, with the whole answer
 --   history-NAME    the changes of the history NAME.in, with what is printed of each and the table at the end
---   largest-shares  the shares of 256 devices and the largest range
+--   largest_shares  the shares of 256 devices and the largest range
 -- All are of the rule in force, `shares`, and computed with its executable form (proofs/Computing.antt).
-use mathlib.Core.Path.{_≡_, refl, ap}
-use mathlib.Core.List.{List, [], _∷_}
+use mathlib.Core.Path.{◌≡◌, refl, ap}
+use mathlib.Core.List.{List, [], ◌∷◌}
 use Prim.Native.Nat.{ℕ}
 use lib.IntN.{ℤ, pos, negsuc}
 use lib.ListN.{replicate}
-use Rattle·slicing·specs.specs.Changes.{State, fresh, Change, add, remove, resize, Outcome, changeBy}
-use Rattle·slicing·specs.specs.Claims.{written}
-use Rattle·slicing·specs.specs.Devices.{Device, device}
-use Rattle·slicing·specs.specs.Reports.{Report, reportBy}
-use Rattle·slicing·specs.specs.Runs.{Run, _of_}
-use Rattle·slicing·specs.specs.ShareRule.{Rule, shares}
-use Rattle·slicing·specs.specs.SixSteps.{turns, Move, move}
-use Rattle·slicing·proofs.proofs.Computing.{computed, shares-computed}
+use Rattle.slicing.specs.Changes.{State, fresh, Change, add, remove, resize, Outcome, change_by}
+use Rattle.slicing.specs.Claims.{written}
+use Rattle.slicing.specs.Devices.{Device, device}
+use Rattle.slicing.specs.Reports.{Report, report_by}
+use Rattle.slicing.specs.Runs.{Run, ◌of◌}
+use Rattle.slicing.specs.ShareRule.{Rule, shares}
+use Rattle.slicing.specs.SixSteps.{turns, Move, move}
+use Rattle.slicing.proofs.Computing.{computed, shares_computed}
 
 -- the refusal number, the moved points, the number of moves, the moves, the pool afterwards
 data Answer : Type 0 where
   seen : ℕ → ℕ → ℕ → List Move → State → Answer
 
-seenOf : Outcome → Answer
-seenOf o = seen (o .number) (o .moved) (o .count) (written o) (o .state)
+seen_of : Outcome → Answer
+seen_of o = seen o.number o.moved o.count (written o) o.state
 
 -- a list of n places
 abbrev places : ℕ → List Move
@@ -133,31 +133,31 @@ places n = replicate n (move 0 0 0 0)
 data Call : Type 0 where
   called : State → Change → ℕ → Call
 
-abbrev answersBy : Rule → List Call → List Answer
-answersBy rule [] = []
-answersBy rule (called s k n ∷ cs) = seenOf (changeBy rule s (places n) k) ∷ answersBy rule cs
+abbrev answers_by : Rule → List Call → List Answer
+answers_by rule [] = []
+answers_by rule (called s k n ∷ cs) = seen_of (change_by rule s (places n) k) ∷ answers_by rule cs
 
 answers : List Call → List Answer
-answers cs = answersBy shares cs
+answers cs = answers_by shares cs
 
-answers-computed : (cs : List Call) → answers cs ≡ answersBy computed cs
+answers_computed : (cs : List Call) → answers cs ≡ answers_by computed cs
 unfolding answers
-answers-computed cs = ap (λ rule. answersBy rule cs) shares-computed
+answers_computed cs = ap (λ rule. answers_by rule cs) shares_computed
 
 -- the report of an id in a pool of such a range and such devices
 data Question : Type 0 where
   about : ℕ → List Device → ℕ → Question
 
-abbrev reportsBy : Rule → List Question → List Report
-reportsBy rule [] = []
-reportsBy rule (about R ds d ∷ qs) = reportBy rule R ds d ∷ reportsBy rule qs
+abbrev reports_by : Rule → List Question → List Report
+reports_by rule [] = []
+reports_by rule (about R ds d ∷ qs) = report_by rule R ds d ∷ reports_by rule qs
 
 reports : List Question → List Report
-reports qs = reportsBy shares qs
+reports qs = reports_by shares qs
 
-reports-computed : (qs : List Question) → reports qs ≡ reportsBy computed qs
+reports_computed : (qs : List Question) → reports qs ≡ reports_by computed qs
 unfolding reports
-reports-computed qs = ap (λ rule. reportsBy rule qs) shares-computed
+reports_computed qs = ap (λ rule. reports_by rule qs) shares_computed
 
 -- the refusal number, the whole number, the remainder, the difference
 told : ℕ → ℕ → ℕ → ℤ → Report
@@ -173,18 +173,18 @@ data Replayed : Type 0 where
   prints : Printed → Replayed → Replayed
 
 -- the list of `slices` has 4,096 places; no history here fills 64
-abbrev replayBy : Rule → State → List Change → Replayed
-replayBy rule s [] = ends (s .table)
-replayBy rule s (k ∷ ks) =
-    let o = changeBy rule s (places 64) k in
-    prints (answered (o .number) (o .moved) (o .count)) (replayBy rule (o .state) ks)
+abbrev replay_by : Rule → State → List Change → Replayed
+replay_by rule s [] = ends s.table
+replay_by rule s (k ∷ ks) =
+    let o = change_by rule s (places 64) k in
+    prints (answered o.number o.moved o.count) (replay_by rule o.state ks)
 
 replay : State → List Change → Replayed
-replay s ks = replayBy shares s ks
+replay s ks = replay_by shares s ks
 
-replay-computed : (s : State) (ks : List Change) → replay s ks ≡ replayBy computed s ks
+replay_computed : (s : State) (ks : List Change) → replay s ks ≡ replay_by computed s ks
 unfolding replay
-replay-computed s ks = ap (λ rule. replayBy rule s ks) shares-computed
+replay_computed s ks = ap (λ rule. replay_by rule s ks) shares_computed
 """
 
 
@@ -197,7 +197,7 @@ def listing(name, function, cases, opened):
     yield "    [])\n    ≡ ("
     for note, _, answer in found:
         yield f"    {note}\n    {answer}\n    ∷"
-    yield f"    [])\nunfolding {opened}\n{name} = rw {function}-computed refl\n"
+    yield f"    [])\nunfolding {opened}\n{name} = rw {function}_computed refl\n"
 
 
 def largest_shares():
@@ -211,15 +211,15 @@ def largest_shares():
         shares[best] += 1
     ds = listed([f"device {d} {c}" for d, c in devices])
     found = runs([(n, d) for n, (d, _) in zip(shares, devices)])
-    yield f"largest-shares : shares {size}\n    ({ds})\n    ≡ {found}"
-    yield "unfolding computed\nlargest-shares = rw shares-computed refl\n"
+    yield f"largest_shares : shares {size}\n    ({ds})\n    ≡ {found}"
+    yield "unfolding computed\nlargest_shares = rw shares_computed refl\n"
 
 
 def main():
     vectors = Vectors(sys.argv[1])
     out = [HEAD]
-    out += listing("direct-calls", "answers", calls(vectors), "seenOf turns computed")
-    out += listing("direct-reports", "reports", reports(vectors), "told computed")
+    out += listing("direct_calls", "answers", calls(vectors), "seen_of turns computed")
+    out += listing("direct_reports", "reports", reports(vectors), "told computed")
     out += largest_shares()
     for path in vectors.histories:
         if path.read_bytes().count(b"\n") > MOST_LINES:
@@ -227,11 +227,11 @@ def main():
         size, changes, answers, table = history(path)
         if not changes:
             continue
-        name = re.sub("-+", "-", path.stem)
+        name = re.sub("-+", "_", path.stem)
         prints = "".join(f"    (prints ({a})\n" for a in answers)
-        out.append(f"history-{name} : replay (fresh {' '.join(size)})\n    ({listed(changes)})\n    ≡")
+        out.append(f"history_{name} : replay (fresh {' '.join(size)})\n    ({listed(changes)})\n    ≡")
         out.append(f"{prints}    (ends ({runs(table)})){')' * len(answers)}")
-        out.append(f"unfolding turns computed\nhistory-{name} = rw replay-computed refl\n")
+        out.append(f"unfolding turns computed\nhistory_{name} = rw replay_computed refl\n")
     sys.stdout.write("\n".join(out))
 
 

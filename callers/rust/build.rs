@@ -25,6 +25,6 @@ fn main() {
 
 fn refuse(what: &str) -> ! {
     eprintln!("{what}. Set it to the whole path of the folder that holds {ARCHIVE};");
-    eprintln!("`rt staticlib gorvyts` in the repository writes it to target/staticlib.");
+    eprintln!("`rt lib` in crates/gorvyts writes it to crates/gorvyts/out.");
     exit(1);
 }

@@ -9,7 +9,7 @@
 -- Assumes `Logic`, and that the table of calls is monotone under a frame.
 use mathlib.Core.List.{List, [], ◌∷◌}
 use seplogic.Ra.Ura.{Ura}
-use mir.Syntax.{Name, Place, Body, Opd as Operand, seq, call}
+use mir.Syntax.{Callee, Place, Body, Opd as Operand, seq, call}
 use mir.Val.{Val}
 use base.Logic.{ent, emp, ex_e, snd∗, via, id⊢}
 use prog.Wp.{Env, Calls, Loops}
@@ -29,7 +29,7 @@ use denote.Triple.Clauses.{Ended, Clauses, Lasts, at_exit, lasts, ensured, closi
 use denote.Triple.Entry.{Res, alive}
 use denote.Triple.Spec.{triple_of}
 
-module _ {M : Type 1} {𝓤 : Ura M} {𝓛 : Logic 𝓤} {K : Type 0} {Γ : List (Item 𝓤)} {E : Env 𝓤 𝓛.H} {C : Calls 𝓤 𝓛.H} {Λ : Loops 𝓤 𝓛.H} {q : Post 𝓤 𝓛.H} {f : Name} {xs : List Operand} {d : Place} {rest : Body} where
+module _ {M : Type 1} {𝓤 : Ura M} {𝓛 : Logic 𝓤} {K : Type 0} {Γ : List (Item 𝓤)} {E : Env 𝓤 𝓛.H} {C : Calls 𝓤 𝓛.H} {Λ : Loops 𝓤 𝓛.H} {q : Post 𝓤 𝓛.H} {f : Callee} {xs : List Operand} {d : Place} {rest : Body} where
   open 𝓛 use {H}
 
   pub calls_plain : K → FmC 𝓤 H 𝓛.laws C → (T : Ended) (c : Clauses 𝓤 T) → Triple 𝓤 (C f) (triple_of 𝓛 T.signature (closing 𝓛 T c)) → (x : Bound 𝓛 T.signature) (g : (c x.0 x.3).ghost)

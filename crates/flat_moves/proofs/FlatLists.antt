@@ -1,6 +1,6 @@
 -- Laws of moves as flat numbers, four a place.
 --
--- movesIn: length_moves_in, moves_in_flat
+-- moves_in: length_moves_in, moves_in_flat
 -- flat: flat_append, length_flat
 -- a place: set_four (four numbers stored side by side), drop_append_drop
 use mathlib.Core.Path.{◌≡◌, refl, sym, ap, ◌∙◌}

@@ -1,6 +1,6 @@
 -- The replay, and the reading, of one line of a text after another.
 --
--- replay_part, readAll-part: from a line's place on they are the line's and then those of the rest
+-- replay_part, read_all_part: from a line's place on they are the line's and then those of the rest
 use mathlib.Core.Path.{◌≡◌, sym, ap, ◌∙◌, refl}
 use mathlib.Core.List.{List, [], ◌∷◌, ◌++◌}
 use Prim.Native.Nat.{ℕ, suc, ◌+◌, ◌≤◌, ◌<◌}

@@ -9,7 +9,7 @@ use native.Mathlib.Omega.{arith}
 use lib.ListN.{length, take, drop, length-append, length-take}
 use lib.Seq.{take_at}
 use borrow.Author.Tests.{le-ltb}
-use Rattle.io.specs.Counts.{IsPrefixLen}
+use Rattle.streams.specs.Counts.{IsPrefixLen}
 use Rattle.history.specs.Promises.{room, Transcribed}
 use Rattle.history.specs.Replay.{transcript}
 use Rattle.history.specs.declared.transcripts.TranscriptAnswer.{TranscriptAnswer}

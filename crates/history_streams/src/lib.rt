@@ -1,26 +1,27 @@
-// The way of a history from one descriptor to another: reads the text, writes its transcript, and tells
-// which of the two failed.
+// The way of a history from a reader to a writer: reads the text, writes its transcript, and tells which
+// of the two failed, and why.
 #![tactic(auto)]
 
 ghost use Rattle.std.specs.Prelude.{◌≡◌, ◌+◌, length, take};
-ghost use Rattle.io.specs.Counts.{IsPrefixLen};
+ghost use Rattle.streams.specs.Counts.{IsPrefixLen};
 ghost use Rattle.history.specs.Promises.{room};
 ghost use Rattle.history.specs.Replay.{max_text, transcript};
 
 use history::{ROOM, TranscriptAnswer};
+use std::io::{Error, Read, Write};
 use streams::Input;
 
 // One byte more than the longest history, so that a longer one is seen.
 pub const MOST: usize = 65537;
 
-// What became of a history. After the last two `os::errno` says why.
+// What became of a history. The last two say why.
 #[derive(Clone, Copy)]
 pub enum Outcome {
     Printed,
     // Nothing was written.
-    Unread,
+    Unread(Error),
     // Some of the transcript may have been written.
-    Unwritten,
+    Unwritten(Error),
 }
 
 // MOST zeros.
@@ -50,15 +51,16 @@ fn put_transcript(text: &[u8], out: &mut [u8; ROOM]) -> usize
 
 // Reads a history from input to its end, or to one byte more than the longest, and writes its transcript
 // to output. Closes neither.
-pub fn transcribe(input: i32, output: i32) -> Outcome {
+pub fn transcribe<R: Read, W: Write>(input: &mut R, output: &mut W) -> Outcome {
     let mut text = text_room();
-    let Input::Read(n) = streams::read_to_end(input, &mut text) else {
-        return Outcome::Unread;
+    let n = match streams::read_to_end(input, &mut text) {
+        Input::Read(n) => n,
+        Input::Failed(error) => return Outcome::Unread(error),
     };
     let mut out = transcript_room();
     let size = put_transcript(&text[..n], &mut out);
-    if streams::write_all(output, &out[..size]) {
-        return Outcome::Printed;
+    match streams::write_all(output, &out[..size]) {
+        Ok(()) => Outcome::Printed,
+        Err(error) => Outcome::Unwritten(error),
     }
-    Outcome::Unwritten
 }

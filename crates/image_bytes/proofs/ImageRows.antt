@@ -90,7 +90,8 @@ module _ (a b : ℕ) (six : a + b ≡ 6) (ps qs : List ℕ) where
       → column (front ++ pair_bytes a b ps qs i n ++ back) k (length front + o) n ≡ take n (drop i zs)
   column_pair_bytes k o zs h front back i zero l = refl
   column_pair_bytes k o zs h front back i (suc n) l =
-      rw (drop-cons zs i 0 (omega arith), shift, place)
+      ap (λ xs. column xs k (length front + o) (suc n)) shift
+      ∙ rw (drop-cons zs i 0 (omega arith), place)
       (ap₂ (λ y ys. y ∷ ys)
       (ap (λ r. number_at r (length front + o) k) (append_assoc next (pair_bytes a b ps qs (suc i) n) back)
       ∙ h i front (pair_bytes a b ps qs (suc i) n ++ back))

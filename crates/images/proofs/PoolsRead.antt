@@ -1,6 +1,6 @@
 -- The pool that the bytes of an image give, and the state that they give.
 --
--- poolIn: described_pool (a pool is it, by its parts), state_of_pool_in (it holds the state), pool_in_cleared (its unused places are 0)
+-- pool_in: described_pool (a pool is it, by its parts), state_of_pool_in (it holds the state), pool_in_cleared (its unused places are 0)
 -- a valid state: devices_few, intervals_few, pool_in_valid, valid_pool_in, pool_of_state_in (the state's pool is it)
 use mathlib.Core.Path.{◌≡◌, refl, sym, ap, ◌∙◌, subst}
 use mathlib.Core.List.{List, [], ◌∷◌, ◌++◌}

@@ -2,11 +2,11 @@
 --
 -- marks: marked_size (marked bytes hold a head)
 -- faults: many_devices, many_intervals, another_size, not_valid (the bytes are not sound), sound (they are)
--- the answer: read_whole, not_opened (nothing is asked of the opened pool of a refused read)
+-- the answer: read_whole
 use mathlib.Core.Path.{◌≡◌, refl, sym, ap, ◌∙◌, subst}
 use mathlib.Core.Bool.{Bool, true, false}
 use mathlib.Core.List.{List}
-use Prim.Native.Nat.{ℕ, suc, ◌+◌, ◌*◌, ◌≤◌, ◌<◌}
+use Prim.Native.Nat.{ℕ, ◌+◌, ◌*◌, ◌≤◌, ◌<◌}
 use native.Mathlib.Omega.{arith}
 use lib.Dec.{leb}
 use lib.ListN.{length}
@@ -15,7 +15,7 @@ use Rattle.pools.specs.Pools.{ValidPool}
 use Rattle.pools.specs.declared.Pool.{Pool}
 use Rattle.pools.specs.declared.PoolAnswer.{PoolAnswer}
 use Rattle.image_numbers.specs.Format.{version, head_size, version_in, devices_in, intervals_in, marked, Sound}
-use Rattle.images.specs.Promises.{ReadAs, accepted, refusal}
+use Rattle.images.specs.Promises.{ReadAs, accepted}
 use Rattle.image_bytes.specs.RowBytes.{pool_in}
 use Rattle.images.proofs.PoolsRead.{devices_few, intervals_few, pool_in_valid, valid_pool_in, pool_of_state_in}
 
@@ -53,6 +53,3 @@ pub read_whole : (xs : List ℕ) → marked xs ≡ true → version_in xs ≡ ve
 read_whole xs m v s p e =
     accepted (record { first = m; second = v; sound = s })
     (ap {B = PoolAnswer} (λ z. record { refusal = 0; pool = z }) (e ∙ sym (pool_of_state_in xs s.valid)))
-
-pub not_opened : {A : Type 0} (n : ℕ) {a : PoolAnswer} → a ≡ refusal (suc n) → a.refusal ≡ 0 → A
-not_opened n e z = absurd (omega (arith, z, ap (λ (r : PoolAnswer). r.refusal) e))

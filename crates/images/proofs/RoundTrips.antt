@@ -23,7 +23,7 @@ use Rattle.pools.specs.declared.Pool.{Pool}
 use Rattle.pools.specs.declared.PoolAnswer.{PoolAnswer}
 use Rattle.pools.proofs.PoolLaws.{state_of_pool_of, valid_pool_pool_of}
 use Rattle.image_numbers.specs.Format.{image_of, state_in, Image}
-use Rattle.images.specs.Promises.{refusal, ReadAs, unmarked, versioned, faulty, accepted, WrittenAs}
+use Rattle.images.specs.Promises.{ReadAs, unmarked, versioned, faulty, accepted, WrittenAs}
 use Rattle.images.specs.declared.WriteAnswer.{WriteAnswer}
 use Rattle.images.specs.declared.WriteAnswer.TheVariants.{Written, Refused}
 use Rattle.image_numbers.proofs.ByteNumbers.{Bytes}

@@ -1,6 +1,6 @@
 -- What `store` and `write` need: the answer, and the buffer afterwards.
 --
--- writeReply: write_reply_answer
+-- write_reply: write_reply_answer
 -- the answer and the buffer: stored_short, stored_whole
 -- WrittenAs: written_answer (what the answer is says what its reply is), written_valid, written_invalid
 use mathlib.Core.Path.{◌≡◌, refl, ap, ◌∙◌}

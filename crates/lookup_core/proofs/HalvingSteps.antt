@@ -4,7 +4,7 @@
 --
 -- halve: halve_end (one place is left), halve_more (steps to spare change nothing), halve_step (more than one place is left)
 -- Halved: halved_all, halved_up, halved_down, halved_one
--- ownerFound: owner_found_none, owner_found_some
+-- owner_found: owner_found_none, owner_found_some
 use mathlib.Core.Path.{◌≡◌, refl, sym, ◌∙◌}
 use mathlib.Core.Bool.{Bool, true, false, cond}
 use mathlib.Core.List.{List}

@@ -4,7 +4,7 @@
 --                                            probing from there on is the whole probing
 --
 -- member: member_here, member_next, member_end (an owner among those from a place on)
--- chooseFrom: choose_from_again, choose_from_last, choose_from_more, choose_from_end (one probe, and none left)
+-- choose_from: choose_from_again, choose_from_last, choose_from_more, choose_from_end (one probe, and none left)
 -- Probing: probing_start, probing_size, probing_again, probing_more; probing_end, probing_last (the answer)
 use mathlib.Core.Path.{◌≡◌, refl, sym, ap, ◌∙◌}
 use mathlib.Core.Bool.{Bool, true, false}

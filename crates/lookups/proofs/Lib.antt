@@ -1,6 +1,4 @@
 pub mod Replies
 pub mod Promised
 pub mod CounterLists
-pub mod LentPool
-pub mod LendsPool
 pub mod CopyAnswers

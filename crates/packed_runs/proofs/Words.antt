@@ -4,7 +4,7 @@
 -- runs: runs_step, runs_end, runs_snoc, runs_same, runs_write (a run stored at the end), runs_last, runs_last_write, runs_first_write,
 -- at_total (a run is no longer than the runs)
 -- Labelled: labelled_put, labelled_set
--- byRow: by_row_step, by_row_end, owned_outside (what no row of them has), owned_by_row (what a row has)
+-- by_row: by_row_step, by_row_end, owned_outside (what no row of them has), owned_by_row (what a row has)
 use mathlib.Core.Path.{◌≡◌, refl, ap, ◌∙◌}
 use mathlib.Core.Bool.{Bool, true, false}
 use mathlib.Core.List.{List, [], ◌∷◌, ◌++◌}

@@ -1,4 +1,2 @@
 pub mod Listing
 pub mod Drafts
-pub mod PassedOn
-pub mod Passing

@@ -2,8 +2,8 @@
 --
 -- padded: padded_take (one number more)
 -- total: total_runs_more, total_runs_le (one run more, and all of them)
--- startsOf: starts_of_relabel, starts_of_run (one run more)
--- ownersOf: owners_of_run
+-- starts_of: starts_of_relabel, starts_of_run (one run more)
+-- owners_of: owners_of_run
 -- the pool: pool_closed
 use mathlib.Core.Path.{◌≡◌, refl, ◌∙◌}
 use mathlib.Core.List.{List, [], ◌∷◌}

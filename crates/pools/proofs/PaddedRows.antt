@@ -1,8 +1,8 @@
 -- Laws of arrays that are filled from the rows, with zeros behind: what the loops of `starts_of` and `owners_of` need.
 --
 -- padded: padded_store (one number more)
--- startsOf: starts_of_snoc, length_starts_of
--- ownersOf: owners_of_snoc, length_owners_of
+-- starts_of: starts_of_snoc, length_starts_of
+-- owners_of: owners_of_snoc, length_owners_of
 use mathlib.Core.Path.{◌≡◌, refl, sym, ap, ◌∙◌}
 use mathlib.Core.List.{List, [], ◌∷◌, ◌++◌}
 use Prim.Native.Nat.{ℕ, suc, ◌+◌, ◌-◌, ◌<◌}

@@ -5,25 +5,53 @@
 #![tactic(auto)]
 
 use history_streams::Outcome;
-use libc::{STDIN_FILENO, STDOUT_FILENO};
+use std::fs::OpenOptions;
+use std::io::{Error, ErrorKind};
+use std::{fs, io};
 
-fn tell_unwritten() {
-    os::fail(b"slices: the transcript could not be written");
+const UNREAD: &str = "the history could not be read";
+
+const UNWRITTEN: &str = "the transcript could not be written";
+
+const OUTPUT: &str = "/dev/stdout";
+
+// What the system says of an error, whose number std puts behind it.
+fn reason(text: &str) -> &str {
+    match text.split_once(" (os error ") {
+        Some((reason, _number)) => reason,
+        None => text,
+    }
 }
 
-fn main() {
-    match history_streams::transcribe(STDIN_FILENO, STDOUT_FILENO) {
-        Outcome::Printed => {
-            // A file system may tell only here that it has no room.
-            if libc::close(STDOUT_FILENO) < 0 {
-                tell_unwritten();
-            }
-        }
-        Outcome::Unread => {
-            os::fail(b"slices: the history could not be read");
-        }
-        Outcome::Unwritten => {
-            tell_unwritten();
-        }
+fn tell(rt: &HostRuntime, what: &str, error: Error) -> io::Result<()> {
+    let text = format!(in rt.alloc(); "{error}")?;
+    let reason = reason(text.as_str());
+    eprintln!(rt; "slices: {what}: {reason}")
+}
+
+// Waits until what was printed has reached its file; a file system may tell only here that it has no
+// room. What is no file, or cannot be opened again, has told all.
+fn settle(rt: &HostRuntime) -> io::Result<()> {
+    match fs::metadata(rt, OUTPUT) {
+        Ok(output) if output.is_file() => {}
+        _ => return Ok(()),
+    }
+    let Ok(file) = OpenOptions::new().append(true).open(rt, OUTPUT) else {
+        return Ok(());
+    };
+    match file.sync_all() {
+        Err(error) if error.kind() != ErrorKind::InvalidInput => Err(error),
+        _ => Ok(()),
+    }
+}
+
+fn main(rt: HostRuntime) -> io::Result<()> {
+    match history_streams::transcribe(&mut rt.stdin(), &mut rt.stdout()) {
+        Outcome::Printed => match settle(&rt) {
+            Ok(()) => Ok(()),
+            Err(error) => tell(&rt, UNWRITTEN, error),
+        },
+        Outcome::Unread(error) => tell(&rt, UNREAD, error),
+        Outcome::Unwritten(error) => tell(&rt, UNWRITTEN, error),
     }
 }

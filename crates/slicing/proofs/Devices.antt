@@ -4,7 +4,7 @@
 --   rising_least and rising_most (its own is within the limits)
 -- members: member_count, member_first (the first of distinct devices has another id than those after it), member_length
 -- present: present_count
--- capacityOf: capacity_of_member (a present id with its capacity is a device of the list)
+-- capacity_of: capacity_of_member (a present id with its capacity is a device of the list)
 -- insert: insert_rising, insert_length; delete: delete_rising, delete_length; update: update-ids, update_length, update_rising,
 --   update_self (with the capacity that it has)
 use mathlib.Core.Path.{◌≡◌, refl, sym, ap, ap₂, subst, ◌∙◌}

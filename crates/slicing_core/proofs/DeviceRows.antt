@@ -1,7 +1,7 @@
 -- Laws of rows of devices: what a caller needs to go from arrays to the rules' list of devices.
 --
 -- Rising: rising_row, row_rising, none_rising (a loop over the rows); within_rising, ascending_rising, below_rising, capacities_rising
--- present: position_present, position_absent; capacityOf: capacity_of_row
+-- present: position_present, position_absent; capacity_of: capacity_of_row
 -- insert: insert_rows; delete: delete_rows; update: update_rows
 use mathlib.Core.Path.{◌≡◌, refl, sym, ap, ◌∙◌}
 use mathlib.Core.Bool.{Bool, true, false, cond, ◌||◌}

@@ -1,7 +1,7 @@
 -- Laws of rows: what a loop over arrays needs.
 --
 -- rows: rows_snoc
--- deviceRows: device_rows_step, device_rows_end, length_device_rows
+-- device_rows: device_rows_step, device_rows_end, length_device_rows
 -- at: at_zeros
 use mathlib.Core.Path.{◌≡◌, refl, ap}
 use mathlib.Core.List.{List, [], ◌∷◌, ◌++◌}

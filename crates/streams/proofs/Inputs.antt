@@ -1,10 +1,8 @@
 -- What a caller knows of an input that was read.
 --
 --   within_read    the bytes that it counts are there
-use mathlib.Core.Path.{◌≡◌}
-use mathlib.Core.List.{List}
-use Prim.Native.Nat.{ℕ}
-use Rattle.io.specs.Counts.{IsPrefixLen}
+use Rattle.std.proofs.Common.{◌≡◌, ℕ, List}
+use Rattle.streams.specs.Counts.{IsPrefixLen}
 use Rattle.streams.specs.Inputs.{Within}
 use Rattle.streams.specs.declared.Input.{Input}
 use Rattle.streams.specs.declared.Input.TheVariants.{Read}

@@ -1,12 +1,14 @@
 // Reading to the end of the input and writing all of a text, with failures told. Knows nothing of pools.
 //
 // A call that a signal interrupts before it moves a byte is made again, up to INTERRUPTIONS times in a
-// row; the next one is a failure. After a failure `os::errno` says why.
+// row; the next one is a failure. A failure carries the error that says why.
 #![tactic(auto)]
 
+ghost use Rattle.std.specs.Io.{ReadsAtMost, WritesAtMost};
 ghost use Rattle.streams.specs.Inputs.{Within};
 
-use libc::EINTR;
+use std::io;
+use std::io::{Error, ErrorKind, Read, Write};
 
 pub const INTERRUPTIONS: u32 = 64;
 
@@ -15,63 +17,66 @@ pub enum Input {
     // So many bytes stand at the start of the buffer. The input ended behind them, or the buffer is full.
     Read(usize),
     // A read failed. What the buffer holds is no input.
-    Failed,
+    Failed(Error),
 }
 
 // Reads until buf is full, the input ends or a read fails.
-pub fn read_to_end(fd: i32, buf: &mut [u8]) -> Input
+pub fn read_to_end<R: Read>(input: &mut R, buf: &mut [u8]) -> Input
     ensures { Within result buf.new }
 {
     let mut done = 0;
     while done < buf.len() {
-        let got = read_some(fd, &mut buf[done..]);
-        if got < 0 {
-            return Input::Failed;
+        match read_some(input, &mut buf[done..]) {
+            Ok(0) => return Input::Read(done),
+            Ok(more) => done += more,
+            Err(error) => return Input::Failed(error),
         }
-        let more = io::count(got, &buf[done..]);
-        if more == 0 {
-            return Input::Read(done);
-        }
-        done += more;
     }
     Input::Read(done)
 }
 
-// Writes all of buf and answers true; false where a write fails or takes nothing, when some of buf may
-// have been written. Of an empty buf nothing is written.
-pub fn write_all(fd: i32, buf: &[u8]) -> bool {
+// Writes all of buf; an error where a write fails or takes nothing, when some of buf may have been
+// written. Of an empty buf nothing is written.
+pub fn write_all<W: Write>(output: &mut W, buf: &[u8]) -> io::Result<()> {
     let mut done = 0;
     while done < buf.len() {
-        let put = io::count(write_some(fd, &buf[done..]), &buf[done..]);
+        let put = write_some(output, &buf[done..])?;
         if put == 0 {
-            return false;
+            return Err(Error::from(ErrorKind::WriteZero));
         }
         done += put;
     }
-    true
+    Ok(())
 }
 
 // Whether a call that answered so was interrupted before it moved a byte.
-fn interrupted(got: isize) -> bool {
-    got < 0 && os::errno() == EINTR
+fn interrupted(answer: &io::Result<usize>) -> bool {
+    match answer {
+        Ok(_) => false,
+        Err(error) => error.kind() == ErrorKind::Interrupted,
+    }
 }
 
-fn read_some(fd: i32, buf: &mut [u8]) -> isize {
-    let mut got = libc::read(fd, &mut *buf);
-    let mut again = INTERRUPTIONS;
-    while again > 0 && interrupted(got) {
-        got = libc::read(fd, &mut *buf);
-        again -= 1;
+fn read_some<R: Read>(input: &mut R, buf: &mut [u8]) -> io::Result<usize>
+    ensures { ReadsAtMost result buf.new }
+{
+    for _ in 0..INTERRUPTIONS {
+        let got = input.read(&mut *buf);
+        if !interrupted(&got) {
+            return got;
+        }
     }
-    got
+    input.read(buf)
 }
 
-fn write_some(fd: i32, buf: &[u8]) -> isize {
-    let mut got = libc::write(fd, buf);
-    let mut again = INTERRUPTIONS;
-    while again > 0 && interrupted(got) {
-        got = libc::write(fd, buf);
-        again -= 1;
+fn write_some<W: Write>(output: &mut W, buf: &[u8]) -> io::Result<usize>
+    ensures { WritesAtMost result buf.now }
+{
+    for _ in 0..INTERRUPTIONS {
+        let put = output.write(buf);
+        if !interrupted(&put) {
+            return put;
+        }
     }
-    got
+    output.write(buf)
 }

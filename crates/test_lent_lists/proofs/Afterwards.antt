@@ -1,11 +1,12 @@
 -- What a change on a list of its own promises, from the list that was lent and the list that came back.
+--     blanks_size         a blank list has as many places as a change can have moves
 --     lends_front_of      the list afterwards is what came back, and the places that were not lent
 --     lends_called        a call is the change that it asks for
 use mathlib.Core.Path.{◌≡◌, sym, ◌∙◌, ap, subst}
 use Prim.Native.Nat.{ℕ, ◌≤◌, min}
 use native.Mathlib.Nat.{min-le_right}
 use mathlib.Core.List.{List, ◌++◌}
-use lib.ListN.{length, take, drop}
+use lib.ListN.{length, take, drop, replicate, length-replicate}
 use lib.Seq.{length-take-le, take-append_seam}
 use Rattle.calls.specs.declared.Call.{Call}
 use Rattle.placement.specs.declared.ChangeAnswer.{ChangeAnswer}
@@ -17,6 +18,12 @@ use Rattle.placement.specs.Promises.{Changed}
 use Rattle.placement.specs.declared.Move.{Move}
 use Rattle.test_lent_lists.specs.Promises.{blanks, Lends}
 use Rattle.test_lent_lists.specs.declared.Lent.{Lent}
+
+copies_size : (n : ℕ) (m : Move) (xs : List Move) → xs ≡ replicate n m → length xs ≡ n
+copies_size n m xs e = ap length e ∙ length-replicate n m
+
+pub blanks_size : (xs : List Move) → xs ≡ blanks → length xs ≡ room
+blanks_size xs e = copies_size room (record { start = 7; length = 7; from = 7; to = 7 }) xs e
 
 -- the list that came back is the first part of the whole
 first_part : (n : ℕ) (xs zs : List Move) → n ≤ length xs → length zs ≡ length (take n xs) → take n (zs ++ drop n xs) ≡ zs

@@ -1,3 +1,1 @@
-pub mod FrontLent
 pub mod Afterwards
-pub mod Lending

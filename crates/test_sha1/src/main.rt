@@ -2,65 +2,69 @@
 // block border up to 200 bytes and of the largest. The expected output was made by `sha1sum`.
 #![tactic(auto)]
 
-use libc::STDOUT_FILENO;
+use std::io;
+use std::io::{BufWriter, Write};
 use test_text::{first, wide32};
 
 // Byte j is j modulo 251, so that no two blocks are alike.
 fn fill(out: &mut [u8]) {
-    let mut j = 0;
-    while j < out.len() {
-        out[j] = (j % 251) as u8;
-        j += 1;
+    for (j, byte) in out.iter_mut().enumerate() {
+        *byte = (j % 251) as u8;
     }
 }
 
-fn print_answer(message: &[u8]) {
+fn print_answer<W: Write>(out: &mut W, message: &[u8]) -> io::Result<()> {
     let answer = sha1_digest::digest(message);
     let words = answer.words;
-    first(wide32(answer.refusal));
-    test_text::space();
-    test_text::hexadecimal(&words);
-    test_text::end_line();
+    first(out, wide32(answer.refusal))?;
+    test_text::space(out)?;
+    test_text::hexadecimal(out, &words)?;
+    test_text::end_line(out)
 }
 
-fn published(name: &[u8], message: &[u8]) {
-    io::write_all(STDOUT_FILENO, name);
-    io::write_all(STDOUT_FILENO, b": ");
-    print_answer(message);
+fn published<W: Write>(out: &mut W, name: &str, message: &[u8]) -> io::Result<()> {
+    write!(out, "{name}: ")?;
+    print_answer(out, message)
 }
 
 // The first n bytes.
-fn counted(bytes: &[u8], n: usize) {
-    first(n as u64);
-    io::write_all(STDOUT_FILENO, b" bytes: ");
+fn counted<W: Write>(out: &mut W, bytes: &[u8], n: usize) -> io::Result<()> {
+    write!(out, "{n} bytes: ")?;
     let size = test_text::within(n, bytes);
-    print_answer(&bytes[..size]);
+    print_answer(out, &bytes[..size])
 }
 
 // The messages around every block border up to 200 bytes.
-fn borders(bytes: &[u8]) {
-    let mut n = 0;
-    while n <= 200 {
-        counted(bytes, n);
-        n += 1;
+fn borders<W: Write>(out: &mut W, bytes: &[u8]) -> io::Result<()> {
+    for n in 0..=200 {
+        counted(out, bytes, n)?;
     }
+    Ok(())
 }
 
-fn main() {
-    published(b"empty", b"");
-    published(b"abc", b"abc");
+fn run<W: Write>(out: &mut W) -> io::Result<()> {
+    published(out, "empty", b"")?;
+    published(out, "abc", b"abc")?;
     published(
-        b"448 bits",
+        out,
+        "448 bits",
         b"abcdbcdecdefdefgefghfghighijhijkijkljklmklmnlmnomnopnopq",
-    );
+    )?;
     published(
-        b"896 bits",
+        out,
+        "896 bits",
         b"abcdefghbcdefghicdefghijdefghijkefghijklfghijklmghijklmnhijklmnoijklmnopjklmnopqklmnopqrlmnopqrsmnopqrstnopqrstu",
-    );
+    )?;
     let mut bytes = [0u8; 65537];
     fill(&mut bytes);
-    borders(&bytes);
-    counted(&bytes, 65535);
-    counted(&bytes, 65536);
-    counted(&bytes, 65537);
+    borders(out, &bytes)?;
+    counted(out, &bytes, 65535)?;
+    counted(out, &bytes, 65536)?;
+    counted(out, &bytes, 65537)
+}
+
+fn main(rt: HostRuntime) -> io::Result<()> {
+    let mut out = BufWriter::new(rt.alloc(), rt.stdout())?;
+    run(&mut out)?;
+    out.flush()
 }

@@ -1,136 +1,163 @@
-// Reads files, a directory and descriptors that are not open by `streams`, writes to descriptors that take
-// nothing, and sends histories from one to another as `slices` does. Makes its files in the folder that it
-// is run in, and removes them. Prints a line for each case, behind a transcript that the case prints.
+// Reads files, a directory and what cannot be read by `streams`, writes to what takes nothing, and sends
+// histories from one to another as `slices` does. Makes its files in the folder that it is run in, and
+// removes them. Prints a line for each case, behind a transcript that the case prints.
+//
+// No program can hold a descriptor that is not open. As closed stands one that is open the other way, which
+// the system answers alike; as never opened a reader and writer whose calls fail with that error.
 #![tactic(auto)]
 
 use history_streams::Outcome;
-use libc::STDOUT_FILENO;
+use std::fs::{File, OpenOptions};
+use std::io::{Error, ErrorKind, Read, Write};
+use std::{fs, io};
 use streams::Input;
 
-// A number that no descriptor has here.
-const UNOPENED: i32 = 99;
+// The system's number of the error that a descriptor is not open for a call.
+const BAD_DESCRIPTOR: i32 = 9;
 
-fn put(text: &[u8]) {
-    io::write_all(STDOUT_FILENO, text);
+const NULL: &str = "/dev/null";
+
+// What was never opened.
+#[derive(Clone, Copy)]
+struct Unopened;
+
+impl Read for Unopened {
+    fn read(&mut self, _buf: &mut [u8]) -> io::Result<usize> {
+        Err(Error::from_raw_os_error(BAD_DESCRIPTOR))
+    }
 }
 
-fn put_reason(error: i32) {
-    if error == libc::EBADF {
-        put(b"bad descriptor\n");
-    } else if error == libc::EISDIR {
-        put(b"is a directory\n");
+impl Write for Unopened {
+    fn write(&mut self, _buf: &[u8]) -> io::Result<usize> {
+        Err(Error::from_raw_os_error(BAD_DESCRIPTOR))
+    }
+
+    fn flush(&mut self) -> io::Result<()> {
+        Ok(())
+    }
+}
+
+fn reason(error: Error) -> &'static str {
+    if error.raw_os_error() == Some(BAD_DESCRIPTOR) {
+        "bad descriptor"
+    } else if error.kind() == ErrorKind::IsADirectory {
+        "is a directory"
     } else {
-        put(b"another reason\n");
+        "another reason"
     }
 }
 
 // Reads to the end, and prints how many bytes came, or why none did.
-fn read(name: &[u8], fd: i32) {
+fn read<R: Read>(rt: &HostRuntime, name: &str, input: &mut R) -> io::Result<()> {
     let mut text = history_streams::text_room();
-    let input = streams::read_to_end(fd, &mut text);
-    let error = os::errno();
-    put(name);
-    match input {
-        Input::Read(n) => {
-            put(b": read ");
-            io::print_decimal(STDOUT_FILENO, n as u64);
-            put(b"\n");
-        }
-        Input::Failed => {
-            put(b": not read: ");
-            put_reason(error);
+    match streams::read_to_end(input, &mut text) {
+        Input::Read(n) => println!(rt; "{name}: read {n}"),
+        Input::Failed(error) => {
+            let why = reason(error);
+            println!(rt; "{name}: not read: {why}")
         }
     }
 }
 
 // Writes a line, and prints whether all of it was written, or why not.
-fn write(name: &[u8], fd: i32) {
-    let written = streams::write_all(fd, b"table\n");
-    let error = os::errno();
-    put(name);
-    if written {
-        put(b": written\n");
-    } else {
-        put(b": not written: ");
-        put_reason(error);
+fn write<W: Write>(rt: &HostRuntime, name: &str, output: &mut W) -> io::Result<()> {
+    match streams::write_all(output, b"table\n") {
+        Ok(()) => println!(rt; "{name}: written"),
+        Err(error) => {
+            let why = reason(error);
+            println!(rt; "{name}: not written: {why}")
+        }
     }
 }
 
 // Sends a history from input to output, and prints what became of it.
-fn transcribe(name: &[u8], input: i32, output: i32) {
-    let outcome = history_streams::transcribe(input, output);
-    let error = os::errno();
-    put(name);
-    match outcome {
-        Outcome::Printed => {
-            put(b": transcript printed\n");
+fn transcribe<R: Read, W: Write>(
+    rt: &HostRuntime,
+    name: &str,
+    input: &mut R,
+    output: &mut W,
+) -> io::Result<()> {
+    match history_streams::transcribe(input, output) {
+        Outcome::Printed => println!(rt; "{name}: transcript printed"),
+        Outcome::Unread(error) => {
+            let why = reason(error);
+            println!(rt; "{name}: history not read: {why}")
         }
-        Outcome::Unread => {
-            put(b": history not read: ");
-            put_reason(error);
-        }
-        Outcome::Unwritten => {
-            put(b": transcript not written: ");
-            put_reason(error);
+        Outcome::Unwritten(error) => {
+            let why = reason(error);
+            println!(rt; "{name}: transcript not written: {why}")
         }
     }
 }
 
 // Makes a file of n bytes, at most 65,537.
-fn make(path: &[u8], n: usize) {
+fn make(rt: &HostRuntime, path: &str, n: usize) -> io::Result<()> {
     let text = [b'x'; 65537];
     if n > text.len() {
-        return;
+        return Ok(());
     }
-    let fd = os::open_overwrite(path);
-    streams::write_all(fd, &text[..n]);
-    libc::close(fd);
+    let mut file = File::create(rt, path)?;
+    streams::write_all(&mut file, &text[..n])
 }
 
 // Sends the history in a file to output.
-fn transcribe_file(path: &[u8], output: i32) {
-    let fd = os::open_read(path);
-    transcribe(path, fd, output);
-    libc::close(fd);
+fn transcribe_file<W: Write>(rt: &HostRuntime, path: &str, output: &mut W) -> io::Result<()> {
+    let mut file = File::open(rt, path)?;
+    transcribe(rt, path, &mut file, output)
 }
 
-// Reads a file of n bytes, prints the transcript of its text, and sends it to no descriptor.
-fn file(path: &[u8], n: usize) {
-    make(path, n);
-    let fd = os::open_read(path);
-    read(path, fd);
-    libc::close(fd);
-    transcribe_file(path, STDOUT_FILENO);
-    transcribe_file(path, UNOPENED);
-    os::unlink(path);
+// Reads a file of n bytes, prints the transcript of its text, and sends it to what was never opened.
+fn file(rt: &HostRuntime, path: &str, n: usize) -> io::Result<()> {
+    make(rt, path, n)?;
+    let mut input = File::open(rt, path)?;
+    read(rt, path, &mut input)?;
+    transcribe_file(rt, path, &mut rt.stdout())?;
+    transcribe_file(rt, path, &mut Unopened)?;
+    fs::remove_file(rt, path)
+}
+
+// A directory is opened as a file is, and not read.
+fn directory(rt: &HostRuntime) -> io::Result<()> {
+    let mut directory = File::open(rt, ".")?;
+    read(rt, "directory", &mut directory)?;
+    transcribe(rt, "directory", &mut directory, &mut rt.stdout())
+}
+
+fn closed(rt: &HostRuntime) -> io::Result<()> {
+    let mut input = OpenOptions::new().write(true).open(rt, NULL)?;
+    read(rt, "closed", &mut input)?;
+    transcribe(rt, "closed", &mut input, &mut rt.stdout())?;
+    let mut output = File::open(rt, NULL)?;
+    write(rt, "closed", &mut output)
+}
+
+fn never_opened(rt: &HostRuntime) -> io::Result<()> {
+    read(rt, "never opened", &mut Unopened)?;
+    transcribe(rt, "never opened", &mut Unopened, &mut rt.stdout())?;
+    write(rt, "never opened", &mut Unopened)
 }
 
 // A full device takes nothing. The same is printed where there is no such device.
-fn full_device() {
-    let fd = os::open_overwrite(b"/dev/full");
-    let written = fd >= 0 && streams::write_all(fd, b"table\n");
-    libc::close(fd);
+fn full_device(rt: &HostRuntime) -> io::Result<()> {
+    let opened = OpenOptions::new().write(true).open(rt, "/dev/full");
+    let written = match opened {
+        Ok(mut device) => streams::write_all(&mut device, b"table\n").is_ok(),
+        Err(_) => false,
+    };
     if written {
-        put(b"full device: written\n");
+        println!(rt; "full device: written")
     } else {
-        put(b"full device: nothing written\n");
+        println!(rt; "full device: nothing written")
     }
 }
 
-fn main() {
-    file(b"file of 0", 0);
-    file(b"file of 65535", 65535);
-    file(b"file of 65536", 65536);
-    file(b"file of 65537", 65537);
-    let directory = os::open_read(b".");
-    read(b"directory", directory);
-    transcribe(b"directory", directory, STDOUT_FILENO);
-    libc::close(directory);
-    read(b"closed", directory);
-    transcribe(b"closed", directory, STDOUT_FILENO);
-    write(b"closed", directory);
-    read(b"never opened", UNOPENED);
-    transcribe(b"never opened", UNOPENED, STDOUT_FILENO);
-    write(b"never opened", UNOPENED);
-    full_device();
+fn main(rt: HostRuntime) -> io::Result<()> {
+    file(&rt, "file of 0", 0)?;
+    file(&rt, "file of 65535", 65535)?;
+    file(&rt, "file of 65536", 65536)?;
+    file(&rt, "file of 65537", 65537)?;
+    directory(&rt)?;
+    closed(&rt)?;
+    never_opened(&rt)?;
+    full_device(&rt)
 }

@@ -1,4 +1,4 @@
-// Lines and numbers for test programs: lines of standard input, numbers of one width as another, and numbers
+// Lines and numbers for test programs: lines of a reader, numbers of one width as another, and numbers
 // printed.
 #![tactic(auto)]
 

@@ -1,7 +1,8 @@
-// Lines of standard input, which is read in pieces.
-ghost use Rattle.std.specs.Prelude.{◌≡◌, ◌≤◌, length};
+// Lines of a reader, which is read in pieces.
+ghost use Rattle.std.specs.Prelude.{◌≡◌, ◌≤◌, length, IfOk};
 
-use libc::STDIN_FILENO;
+use std::io;
+use std::io::Read;
 
 // The bytes of a piece.
 pub const PIECE: usize = 65536;
@@ -54,58 +55,64 @@ fn taken(input: Input, byte: u8, line: &mut [u8]) -> Input
 }
 
 // Reads the next piece where the last is used up.
-fn filled(input: Input, piece: &mut [u8; PIECE]) -> Input
-    ensures { result.count ≡ input.count }
+fn filled<R: Read>(reader: &mut R, input: Input, piece: &mut [u8; PIECE]) -> io::Result<Input>
+    ensures { IfOk result (λ next. next.count ≡ input.count) }
 {
     if input.at < input.end {
-        return input;
+        return Ok(input);
     }
     let mut next = input;
-    let got = libc::read(STDIN_FILENO, &mut *piece);
+    next.end = reader.read(piece)?;
     next.at = 0;
-    next.end = io::count(got, &*piece);
-    next
+    Ok(next)
 }
 
 // Reads one byte; the input's end ends the line.
-fn step(input: Input, piece: &mut [u8; PIECE], line: &mut [u8]) -> Input
+fn step<R: Read>(
+    reader: &mut R,
+    input: Input,
+    piece: &mut [u8; PIECE],
+    line: &mut [u8],
+) -> io::Result<Input>
     requires { input.count ≤ length line.old }
-    ensures { result.count ≤ length line.old }
+    ensures { IfOk result (λ next. next.count ≤ length line.old) }
 {
-    let mut next = filled(input, &mut *piece);
+    let mut next = filled(reader, input, &mut *piece)?;
     let at = next.at;
-    if at < next.end {
-        if at < PIECE {
-            next.at = at + 1;
-            return taken(next, piece[at], &mut *line);
-        }
+    if at < next.end && at < PIECE {
+        next.at = at + 1;
+        return Ok(taken(next, piece[at], line));
     }
     next.ended = true;
     next.last = true;
-    next
+    Ok(next)
 }
 
 // Reads a line. Its first bytes, as many as the answer counts, stand at the front of `line`. A line has no
-// limit that could be reached; what is left is there for the proof of the end.
-pub fn read_line(input: Input, piece: &mut [u8; PIECE], line: &mut [u8]) -> Input
-    ensures { result.count ≤ length line.old }
+// limit that could be reached; the count of steps is there for the proof of the end. An error where a read
+// fails.
+pub fn read_line<R: Read>(
+    reader: &mut R,
+    input: Input,
+    piece: &mut [u8; PIECE],
+    line: &mut [u8],
+) -> io::Result<Input>
+    ensures { IfOk result (λ next. next.count ≤ length line.old) }
 {
     let mut next = input;
     next.count = 0;
     next.cut = false;
     next.ended = false;
-    let mut left: u64 = u64::MAX;
-    while left > 0 {
-        next = step(next, &mut *piece, &mut *line);
+    for _ in 0..u64::MAX {
+        next = step(reader, next, &mut *piece, &mut *line)?;
         if next.ended {
-            return next;
+            return Ok(next);
         }
-        left -= 1;
     }
-    next
+    Ok(next)
 }
 
 // Whether the input ended with no byte of a further line.
 pub fn finished(input: Input) -> bool {
-    if input.last { input.count == 0 } else { false }
+    input.last && input.count == 0
 }

@@ -1,23 +1,20 @@
 // Numbers of one width as another, and numbers that count places of a list.
 ghost use Rattle.std.specs.Prelude.{◌≡◌, ◌≤◌, nat_abs};
-ghost use Rattle.io.specs.Counts.{IsPrefixLen};
+ghost use Rattle.test_text.specs.Counts.{IsPrefixLen};
 
 pub fn wide16(x: u16) -> u64 {
-    x as u64
+    u64::from(x)
 }
 
 pub fn wide32(x: u32) -> u64 {
-    x as u64
+    u64::from(x)
 }
 
 // The number without its sign.
 pub fn magnitude(x: i64) -> u64
     ensures { result ≡ nat_abs x }
 {
-    if x < 0 {
-        return (-(x + 1)) as u64 + 1;
-    }
-    x as u64
+    x.unsigned_abs()
 }
 
 // The number, or b where it is above b.

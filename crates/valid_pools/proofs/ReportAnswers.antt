@@ -1,6 +1,6 @@
 -- Laws of the answer to the call for a report.
 --
--- reportFrom: report_from_lem (of the device found, the rules' report), report_refused, report_told_lem (its two cases)
+-- report_from: report_from_lem (of the device found, the rules' report), report_refused, report_told_lem (its two cases)
 -- Reported: reported_of (from the device found)
 use mathlib.Core.Path.{◌≡◌, refl, ap, ◌∙◌}
 use mathlib.Core.Bool.{Bool, true, false, cond}

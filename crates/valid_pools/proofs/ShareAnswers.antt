@@ -1,6 +1,6 @@
 -- Laws of the answer to the call for a share.
 --
--- shareReply: share_reply_answer
+-- share_reply: share_reply_answer
 -- Shared: shared_answer (what the answer is says what its reply is), shared_valid, shared_two (a pool that is valid, one that is not);
 --   from the device found: shared_refused, shared_told
 use mathlib.Core.Path.{◌≡◌, refl, ap, ◌∙◌}

@@ -1,5 +1,4 @@
 -- `answers::put1` meets its contract.
-use borrow.Author.Rules.{rules}
 use Rattle.answers.proofs.FirstPlaces.{put_first}
 use Rattle.answers.proofs.put1.Goals as goal
 

@@ -1,7 +1,6 @@
 -- `answers::put2` meets its contract.
 use native.Mathlib.Omega.{arith}
 use lib.ListN.{length-set}
-use borrow.Author.Rules.{rules}
 use Rattle.answers.proofs.FirstPlaces.{put_two}
 use Rattle.answers.proofs.put2.Goals as goal
 

@@ -1,7 +1,6 @@
 -- `answers::put3` meets its contract.
 use native.Mathlib.Omega.{arith}
 use lib.ListN.{length-set}
-use borrow.Author.Rules.{rules}
 use Rattle.answers.proofs.FirstPlaces.{put_three}
 use Rattle.answers.proofs.put3.Goals as goal
 

@@ -1,7 +1,6 @@
 -- `answers::put4` meets its contract.
 use native.Mathlib.Omega.{arith}
 use lib.ListN.{set, length-set}
-use borrow.Author.Rules.{rules}
 use Rattle.answers.proofs.FirstPlaces.{put_four}
 use Rattle.answers.proofs.put4.Goals as goal
 

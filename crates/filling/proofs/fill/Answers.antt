@@ -8,8 +8,10 @@ use Rattle.filling.proofs.fill.Goals as goal
 
 pub loop-i-init : goal.loop-i-init
 loop-i-init c =
-    let pre = (c.requires.n_bound, (c.requires.p_bound, c.requires.pieces_len)) in
-    filling_none _ _ _ _ _ pre.1.1.0 pre.1.1.1 pre.1.1.2 pre.0.2 pre.0.3 pre.1.0.0 pre.1.0.1
+    let a = c.requires.n_bound in
+    let b = c.requires.p_bound in
+    let l = c.requires.pieces_len in
+    filling_none _ _ _ _ _ l.0 l.1 l.2 a.2 a.3 b.0 b.1
 
 pub push-count-requires : goal.push-count-requires
 push-count-requires c =

@@ -1,9 +1,8 @@
 -- `flat_moves::write_moves` meets its contract. The loop's invariant: the moves of the turns passed stand in front, and the rest of the list stays.
-use mathlib.Core.Logic.{⊎_elim}
-use Prim.Native.Nat.{◌-◌}
 use native.Mathlib.Omega.{arith}
-use Rattle.flat_moves.proofs.WrittenMoves.{Listed, listed_none, listed_on, listed_more, listed_end, listed_size, listed_room, listed_points}
+use Rattle.flat_moves.proofs.WrittenMoves.{listed_none, listed_on, listed_more, listed_end, listed_size, listed_room, listed_points}
 use Rattle.flat_moves.proofs.write_moves.Goals as goal
+use Rattle.flat_moves.proofs.write_moves.Goals.{then-from-to, else-from-to}
 
 pub loop-i-init : goal.loop-i-init
 loop-i-init c =
@@ -29,10 +28,10 @@ pub loop-i-preserved : goal.loop-i-preserved
 loop-i-preserved c =
     let w = c.loop-i.invariant in
     let h = c.loop-i-test.true in
-    ⊎_elim
-    (λ s. rw (s.7, s.8) (listed_more w h s.0.taken s.4.ensures))
-    (λ s. rw (s.1, s.2) (listed_on w h s.0.left))
-    c.if-from-to.branch
+    elim c.if-from-to.branch [
+      | then-from-to s ↦ rw (s.count-is, s.list-is) (listed_more w h s.if-from-to.true s.put_move.ensures)
+      | else-from-to s ↦ rw (s.count-is, s.list-is) (listed_on w h s.if-from-to.false)
+    ]
 
 pub shape_of-list : goal.shape_of-list
 shape_of-list c =

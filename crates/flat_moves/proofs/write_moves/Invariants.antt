@@ -1,8 +1,6 @@
 -- `flat_moves::write_moves` meets its contract. The loop's invariant: the moves of the turns passed stand in front, and the rest of the list stays.
-use mathlib.Core.Logic.{⊎_elim}
 use Prim.Native.Nat.{◌-◌}
-use native.Mathlib.Omega.{arith}
-use Rattle.flat_moves.proofs.WrittenMoves.{Listed, listed_none, listed_on, listed_more, listed_end, listed_size, listed_room, listed_points}
+use Rattle.flat_moves.proofs.WrittenMoves.{Listed}
 use Rattle.flat_moves.proofs.write_moves.Given as goal
 
 abbrev pub invariant-loop-i : goal.invariant-loop-i

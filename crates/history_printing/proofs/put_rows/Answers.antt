@@ -1,7 +1,6 @@
 -- `history_printing::put_rows` meets its contract. The loop's invariant: the first i rows are written.
-use Prim.Native.Nat.{◌-◌}
 use native.Mathlib.Omega.{arith}
-use Rattle.history_printing.proofs.PrintedRows.{Printed, row_fits, printed_none, printed_room, printed_more, printed_all}
+use Rattle.history_printing.proofs.PrintedRows.{row_fits, printed_none, printed_room, printed_more, printed_all}
 use Rattle.history_printing.proofs.put_rows.Goals as goal
 
 pub loop-i-init : goal.loop-i-init
@@ -16,22 +15,22 @@ overflow_sub-end c =
       arith,
       row_fits a.starts.now a.owners.now a.range a.q c.loop-i.i c.loop-i-test.true c.requires.q_bound.2,
       c.wide32-start.ensures.0,
-      c.end_of_lem.ensures,
+      c.end_of-end.ensures,
     )
 
 pub put_row-last-requires : goal.put_row-last-requires
 put_row-last-requires c =
     let a = c.args in
     printed_room a.starts.now a.owners.now a.range a.q a.place a.out.now c.loop-i.out c.loop-i.last c.loop-i.i
-    c.wide32-start.result c.end_of_lem.result c.wide16.result c.requires.q_bound.2 c.requires.q_bound.1 c.loop-i-test.true c.requires.q_in_bounds
-    c.wide32-start.ensures.0 c.end_of_lem.ensures c.wide16.ensures.0 c.wide16.ensures.1 c.loop-i.invariant
+    c.wide32-start.result c.end_of-end.result c.wide16.result c.requires.q_bound.2 c.requires.q_bound.1 c.loop-i-test.true c.requires.q_in_bounds
+    c.wide32-start.ensures.0 c.end_of-end.ensures c.wide16.ensures.0 c.wide16.ensures.1 c.loop-i.invariant
 
 pub loop-i-preserved : goal.loop-i-preserved
 loop-i-preserved c =
     let a = c.args in
     printed_more a.starts.now a.owners.now a.range a.q a.place a.out.now c.loop-i.out c.loop-i.last c.loop-i.i
-    c.wide32-start.result c.end_of_lem.result c.wide16.result c.requires.q_bound.2 c.requires.q_bound.1 c.loop-i-test.true c.requires.q_in_bounds
-    c.wide32-start.ensures.0 c.end_of_lem.ensures c.wide16.ensures.0 c.wide16.ensures.1 c.loop-i.invariant
+    c.wide32-start.result c.end_of-end.result c.wide16.result c.requires.q_bound.2 c.requires.q_bound.1 c.loop-i-test.true c.requires.q_in_bounds
+    c.wide32-start.ensures.0 c.end_of-end.ensures c.wide16.ensures.0 c.wide16.ensures.1 c.loop-i.invariant
     c.put_row-last.new.out c.put_row-last.result (c.put_row-last.ensures.place, c.put_row-last.ensures.line)
 
 pub shape_of-out : goal.shape_of-out

@@ -1,5 +1,4 @@
 -- `image_changes::change` meets its contract.
-use borrow.Author.Rules.{rules}
 use Rattle.calls.specs.Calls.{change_of}
 use Rattle.image_changes.proofs.MovedLists.{change_room, change_refused, change_opened, change_valid, change_unfit, change_done}
 use Rattle.image_changes.proofs.change.Goals as goal
@@ -17,26 +16,18 @@ pub store-requires : goal.store-requires
 store-requires c =
     change_valid c.requires.0 (change_of c.args.call) c.args.list.now c.plan-made.ensures.planned c.if-made-gt0.false c.close-pool.ensures
 
-pub put3-requires-in_default : goal.put3-requires-in_default
-put3-requires-in_default c =
-    c.requires.1
-
 pub returns-in_default : goal.returns-in_default
 returns-in_default c =
     change_unfit c.requires.0 (change_of c.args.call) c.args.list.now c.plan-made.ensures.planned c.if-made-gt0.false c.close-pool.ensures
-    c.args.next.now c.store.ensures.answer c.store.ensures.buffer c.args.answer.now c.enum_told-1.given.1 c.put3-in_default.ensures
+    c.args.next.now c.store.ensures.answer c.store.ensures.buffer c.args.answer.now c.in_default.is c.put3-in_default.ensures
 
 pub write_moves-requires : goal.write_moves-requires
 write_moves-requires c =
     let p = c.plan-made.ensures.planned in
     (p.most, p.points, change_room c.requires.0 (change_of c.args.call) c.args.list.now c.plan-made.ensures.planned)
 
-pub put3-requires-2 : goal.put3-requires-2
-put3-requires-2 c =
-    c.requires.1
-
 pub returns : goal.returns
 returns c =
     change_done c.requires.0 (change_of c.args.call) c.args.list.now c.plan-made.ensures.planned c.if-made-gt0.false c.close-pool.ensures
-    c.args.next.now c.store.ensures.answer c.store.ensures.buffer c.args.answer.now c.size-1.given.1 c.write_moves.ensures
+    c.args.next.now c.store.ensures.answer c.store.ensures.buffer c.args.answer.now c.in-Written.is c.write_moves.ensures
     c.put3-2.ensures

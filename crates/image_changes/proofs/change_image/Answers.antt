@@ -1,6 +1,5 @@
 -- `image_changes::change_image` meets its contract.
 use native.Mathlib.Omega.{arith}
-use borrow.Author.Rules.{rules}
 use Rattle.calls.specs.Calls.{change_of}
 use Rattle.image_changes.proofs.MovedLists.{changed_short, changed_unread, changed_read}
 use Rattle.image_changes.proofs.change_image.Goals as goal

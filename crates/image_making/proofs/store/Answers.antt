@@ -7,9 +7,9 @@ use Rattle.image_making.proofs.store.Goals as goal
 pub returns-in-Written : goal.returns-in-Written
 returns-in-Written c =
     stored_whole (state_of c.args.pool) c.args.image.now _ c.args.answer.now _ _ _ c.store.ensures.answer c.store.ensures.buffer
-    c.size-1.given.1 c.put1.ensures
+    c.in-Written.is c.put1.ensures
 
 pub returns-in-Refused : goal.returns-in-Refused
 returns-in-Refused c =
     stored_none (state_of c.args.pool) c.args.image.now _ c.args.answer.now _ _ _ c.store.ensures.answer c.store.ensures.buffer
-    c.refusal-1.given.1 c.put1-in-Refused.ensures
+    c.in-Refused.is c.put1-in-Refused.ensures

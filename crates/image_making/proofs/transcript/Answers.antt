@@ -10,9 +10,9 @@ returns-then-answer-lt1 c =
 pub returns-in-Printed : goal.returns-in-Printed
 returns-in-Printed c =
     transcript_whole c.args.text.now c.args.out.now _ c.args.answer.now _ _ _ c.transcript.ensures c.if-answer-lt1.false
-    c.printed-1.given.1 c.put1.ensures
+    c.in-Printed.is c.put1.ensures
 
 pub returns-in-Refused : goal.returns-in-Refused
 returns-in-Refused c =
     transcript_none c.args.text.now c.args.out.now _ c.args.answer.now _ _ _ c.transcript.ensures c.if-answer-lt1.false
-    c.refusal-1.given.1 c.put1-in-Refused.ensures
+    c.in-Refused.is c.put1-in-Refused.ensures

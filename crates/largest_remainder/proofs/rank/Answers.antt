@@ -11,6 +11,7 @@ use Rattle.slicing_core.specs.Rows.{at}
 use Rattle.largest_remainder.specs.Remainders.{rank as rank_of}
 use Rattle.largest_remainder.proofs.RemainderRows.{rank_next, rank_end}
 use Rattle.largest_remainder.proofs.rank.Goals as goal
+use Rattle.largest_remainder.proofs.rank.Goals.{then-own-other, else-own-other+then-own-other-2+then-ids-i, else-own-other+then-own-other-2+else-ids-i, else-own-other+else-own-other-2}
 
 pub loop-i-init : goal.loop-i-init
 loop-i-init c =
@@ -25,11 +26,15 @@ loop-i-preserved c =
     let ids = args.ids.now in
     let p = args.p in
     let next = rank_next rems ids p i args.n c.loop-i-test.true pass.invariant.1 pass.invariant.2 in
-    ⊎_elim (λ w. next true (lex_more (at rems i) (at ids i) (at rems p) (at ids p) w.0.taken) w.1)
-    (⊎_elim (λ w. next true (lex_same (at rems i) (at ids i) (at rems p) (at ids p) w.1.taken w.3.taken) w.4)
-    (⊎_elim (λ w. next false (lex_not (at rems i) (at ids i) (at rems p) (at ids p) w.0.left (λ e. w.3.left)) w.4)
-    (λ w. next false (lex_not (at rems i) (at ids i) (at rems p) (at ids p) w.0.left (λ e. absurd (w.1.left e))) w.2)))
-    c.if-own-other.branch
+    elim c.if-own-other.branch [
+      | then-own-other w ↦ next true (lex_more (at rems i) (at ids i) (at rems p) (at ids p) w.if-own-other.true) w.before-is
+      | else-own-other+then-own-other-2+then-ids-i w ↦
+          next true (lex_same (at rems i) (at ids i) (at rems p) (at ids p) w.if-own-other-2.true w.if-ids-i.true) w.before-is
+      | else-own-other+then-own-other-2+else-ids-i w ↦
+          next false (lex_not (at rems i) (at ids i) (at rems p) (at ids p) w.if-own-other.false (λ e. w.if-ids-i.false)) w.before-is
+      | else-own-other+else-own-other-2 w ↦
+          next false (lex_not (at rems i) (at ids i) (at rems p) (at ids p) w.if-own-other.false (λ e. absurd (w.if-own-other-2.false e))) w.before-is
+    ]
 
 pub returns : goal.returns
 returns c =

@@ -10,6 +10,7 @@ use Rattle.slicing_core.proofs.FilledArrays.{FilledTo, filled_to_none, filled_to
 use Rattle.shares.proofs.DeviceCapacities.{capacity_most, some_capacities}
 use Rattle.largest_remainder.proofs.RemainderRows.{floor_most, share_more, share_same, rows_shares}
 use Rattle.largest_remainder.proofs.shares.Goals as goal
+use Rattle.largest_remainder.proofs.shares.Goals.{then-rank-leftover, else-rank-leftover}
 
 pub floors-leftover-requires : goal.floors-leftover-requires
 floors-leftover-requires c =
@@ -41,9 +42,10 @@ loop-i-preserved c =
     let r = c.remainders-left.ensures in
     let rank = c.rank.ensures in (
       omega arith,
-      ⊎_elim (λ w. filled_to_put pass.invariant.1 (omega arith) w.1 (share_more e g r pass.i l (omega (arith, w.0.taken, rank))))
-          (λ w. filled_to_put pass.invariant.1 (omega arith) w.1 (share_same e g r pass.i l (omega (arith, w.0.left, rank))))
-          c.if-rank-leftover.branch,
+      elim c.if-rank-leftover.branch [
+        | then-rank-leftover w ↦ filled_to_put pass.invariant.1 (omega arith) w.into-is (share_more e g r pass.i l (omega (arith, w.if-rank-leftover.true, rank)))
+        | else-rank-leftover w ↦ filled_to_put pass.invariant.1 (omega arith) w.into-is (share_same e g r pass.i l (omega (arith, w.if-rank-leftover.false, rank)))
+      ],
     )
 
 pub returns : goal.returns

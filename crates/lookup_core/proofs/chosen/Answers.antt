@@ -1,16 +1,8 @@
 -- `lookup_core::chosen` meets its contract. The loop's invariant: the owner is among the first n where it is among those from `i` on.
-use mathlib.Core.Path.{◌≡◌, refl, sym, ◌∙◌}
-use Prim.Native.Nat.{◌-◌, ◌≤◌}
+use mathlib.Core.Path.{sym, ◌∙◌}
 use native.Mathlib.Omega.{arith}
-use lib.ListN.{take}
-use lib.Seq.{slice}
-use Rattle.lookup_core.specs.Probes.{member}
 use Rattle.lookup_core.proofs.ProbeSteps.{member_here, member_next, member_end}
 use Rattle.lookup_core.proofs.chosen.Goals as goal
-
-pub loop-i-init : goal.loop-i-init
-loop-i-init c =
-    (omega arith, refl)
 
 pub returns-then-owners-i : goal.returns-then-owners-i
 returns-then-owners-i c =

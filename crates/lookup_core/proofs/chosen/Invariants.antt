@@ -1,11 +1,9 @@
 -- `lookup_core::chosen` meets its contract. The loop's invariant: the owner is among the first n where it is among those from `i` on.
-use mathlib.Core.Path.{◌≡◌, refl, sym, ◌∙◌}
+use mathlib.Core.Path.{◌≡◌}
 use Prim.Native.Nat.{◌-◌, ◌≤◌}
-use native.Mathlib.Omega.{arith}
 use lib.ListN.{take}
 use lib.Seq.{slice}
 use Rattle.lookup_core.specs.Probes.{member}
-use Rattle.lookup_core.proofs.ProbeSteps.{member_here, member_next, member_end}
 use Rattle.lookup_core.proofs.chosen.Given as goal
 
 abbrev pub invariant-loop-i : goal.invariant-loop-i

@@ -1,16 +1,11 @@
 -- `lookup_core::place` meets its contract. The loop's invariant: halving from `lo` and `hi` ends where halving all n places does.
-use Prim.Native.Nat.{◌-◌}
 use native.Mathlib.Omega.{arith}
-use Rattle.lookup_core.proofs.HalvingSteps.{Halved, halved_all, halved_up, halved_down, halved_one}
+use Rattle.lookup_core.proofs.HalvingSteps.{halved_all, halved_up, halved_down, halved_one}
 use Rattle.lookup_core.proofs.place.Goals as goal
 
 pub loop-lo-init : goal.loop-lo-init
 loop-lo-init c =
     halved_all _ _ _ c.requires.0
-
-pub wide_start-requires : goal.wide_start-requires
-wide_start-requires c =
-    tt
 
 pub loop-lo-preserved-then-wide_start-point : goal.loop-lo-preserved-then-wide_start-point
 loop-lo-preserved-then-wide_start-point c =

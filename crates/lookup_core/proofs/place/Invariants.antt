@@ -1,7 +1,6 @@
 -- `lookup_core::place` meets its contract. The loop's invariant: halving from `lo` and `hi` ends where halving all n places does.
 use Prim.Native.Nat.{◌-◌}
-use native.Mathlib.Omega.{arith}
-use Rattle.lookup_core.proofs.HalvingSteps.{Halved, halved_all, halved_up, halved_down, halved_one}
+use Rattle.lookup_core.proofs.HalvingSteps.{Halved}
 use Rattle.lookup_core.proofs.place.Given as goal
 
 abbrev pub invariant-loop-lo : goal.invariant-loop-lo

@@ -2,13 +2,12 @@
 use mathlib.Core.Path.{ap}
 use native.Mathlib.Nat.{mul-le-mul_left}
 use native.Mathlib.Omega.{arith}
-use borrow.Author.Rules.{rules}
 use Rattle.lookup_core.specs.Probes.{point_of, scaled}
 use Rattle.lookup_core.proofs.probe_point.Goals as goal
 
 pub overflow_mul-result : goal.overflow_mul-result
 overflow_mul-result c =
-    omega (arith, mul-le-mul_left c.first_word-h.result c.requires, c.first_word-h.type-inv)
+    omega (arith, mul-le-mul_left c.first_word-h.result c.requires, c.first_word-h.type_inv)
 
 pub returns : goal.returns
 unfolding point_of

@@ -1,14 +1,12 @@
 -- `lookups::checked_copies` meets its contract: 2 first, then what is found in the arrays of a valid pool.
-use borrow.Author.Rules.{rules}
-use borrow.Author.Tests.{not-true, not-false}
 use Rattle.lookups.proofs.Promised.{copied_two, copied_in}
 use Rattle.lookups.proofs.checked_copies.Goals as goal
 
 pub returns-then-not-valid : goal.returns-then-not-valid
 returns-then-not-valid c =
-    copied_two (rw (not-true c.valid.result c.if-not-valid.true) at c.valid.ensures) c.refused.ensures
+    copied_two (rw c.if-not-valid.true at c.valid.ensures) c.refused.ensures
 
 pub returns : goal.returns
 returns c =
     let a = c.args in
-    copied_in a.pool (rw (not-false c.valid.result c.if-not-valid.false) at c.valid.ensures) a.block a.k a.counters _ c.copies_in.ensures
+    copied_in a.pool (rw c.if-not-valid.false at c.valid.ensures) a.block a.k a.counters _ c.copies_in.ensures

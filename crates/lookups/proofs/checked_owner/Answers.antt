@@ -1,14 +1,12 @@
 -- `lookups::checked_owner` meets its contract: 2 first, then what is found in the arrays of a valid pool.
-use borrow.Author.Rules.{rules}
-use borrow.Author.Tests.{not-true, not-false}
 use Rattle.lookups.proofs.Promised.{looked_two, looked_in}
 use Rattle.lookups.proofs.checked_owner.Goals as goal
 
 pub returns-then-not-valid : goal.returns-then-not-valid
 returns-then-not-valid c =
-    looked_two (rw (not-true c.valid.result c.if-not-valid.true) at c.valid.ensures)
+    looked_two (rw c.if-not-valid.true at c.valid.ensures)
 
 pub returns : goal.returns
 returns c =
     let a = c.args in
-    looked_in a.pool (rw (not-false c.valid.result c.if-not-valid.false) at c.valid.ensures) a.point _ c.owner_in.ensures
+    looked_in a.pool (rw c.if-not-valid.false at c.valid.ensures) a.point _ c.owner_in.ensures

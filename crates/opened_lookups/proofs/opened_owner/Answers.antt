@@ -1,5 +1,4 @@
 -- `opened_lookups::opened_owner` meets its contract.
-use borrow.Author.Rules.{rules}
 use Rattle.opened_lookups.proofs.OpenedLookups.{owned_in_short, owned_in_told}
 use Rattle.opened_lookups.proofs.opened_owner.Goals as goal
 

@@ -1,11 +1,11 @@
 -- `packed_runs::push` meets its contract: its three returns are the three laws of Pushed.
 use Prim.Native.Nat.{◌-◌}
 use native.Mathlib.Omega.{arith}
-use mathlib.Core.Logic.{⊎_elim}
 use borrow.Author.Rules.{rules}
 use Rattle.packed_runs.proofs.Words.{at_total}
 use Rattle.packed_runs.proofs.Pushing.{pushed_none, pushed_more, pushed_put}
 use Rattle.packed_runs.proofs.push.Goals as goal
+use Rattle.packed_runs.proofs.push.Goals.{then-n-gt0+else-last-label, else-n-gt0}
 
 pub returns-then-size-eq0 : goal.returns-then-size-eq0
 returns-then-size-eq0 c =
@@ -23,4 +23,4 @@ returns-then-last-label c =
 pub returns : goal.returns
 returns c =
     pushed_put _ _ _ _ c.requires.0 (omega (arith, c.if-size-eq0.false)) c.requires.2
-    (⊎_elim (λ w b. w.2.left) (λ w b. absurd (omega arith)) c.if-n-gt0.branch)
+    (elim c.if-n-gt0.branch [ then-n-gt0+else-last-label w ↦ λ _ e. w.if-last-label.false e | else-n-gt0 w ↦ λ l _. absurd (omega arith) ])

@@ -1,12 +1,11 @@
 -- `placement::rows_of` meets its contract. The loop's invariant: the moves of the turns passed stand in the rows, and those of the turns
 -- that are left are all others.
-use mathlib.Core.Logic.{⊎_elim}
-use Prim.Native.Nat.{◌-◌, ◌<◌}
+use Prim.Native.Nat.{◌<◌}
 use native.Mathlib.Omega.{arith}
-use borrow.Author.Rules.{rules}
 use Rattle.packed_runs.specs.Words.{room}
-use Rattle.placement.proofs.Listing.{Listed, listed_none, listed_size, listed_on, listed_more, listed_end}
+use Rattle.placement.proofs.Listing.{listed_none, listed_size, listed_on, listed_more, listed_end}
 use Rattle.placement.proofs.rows_of.Goals as goal
+use Rattle.placement.proofs.rows_of.Goals.{then-from-to, else-from-to}
 
 pub loop-i-init : goal.loop-i-init
 loop-i-init c =
@@ -31,10 +30,10 @@ loop-i-preserved c =
     let few : c.loop-i.count < room = omega (arith, c.loop-i.invariant.few, c.loop-i-test.true, c.requires.0) in
     let w = c.loop-i.invariant in
     let h = c.loop-i-test.true in
-    ⊎_elim
-    (λ s. rw (s.3, s.4) (listed_more w h s.0.taken few))
-    (λ s. rw (s.1, s.2) (listed_on w h s.0.left))
-    c.if-from-to.branch
+    elim c.if-from-to.branch [
+      | then-from-to b ↦ rw (b.rows-is, b.count-is) (listed_more w h b.if-from-to.true few)
+      | else-from-to b ↦ rw (b.rows-is, b.count-is) (listed_on w h b.if-from-to.false)
+    ]
 
 pub returns : goal.returns
 returns c =

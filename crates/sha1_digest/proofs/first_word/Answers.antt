@@ -2,7 +2,6 @@
 use mathlib.Core.Path.{refl, sym, ap, ap₂, ◌∙◌}
 use native.Mathlib.Omega.{arith}
 use lib.ListN.{get_or}
-use borrow.Author.Rules.{rules}
 use Rattle.sha1_blocks.specs.Fips180.{compress}
 use Rattle.sha1_blocks.specs.declared.Hash.{Hash}
 use Rattle.sha1_digest.proofs.TwelveBytes.{digest_twelve}

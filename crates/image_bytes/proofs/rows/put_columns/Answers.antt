@@ -1,9 +1,9 @@
 -- `image_bytes::rows::put_columns` meets its contract. The loop's invariant: the first i rows are written, and the rest is as it was.
 use mathlib.Core.Path.{◌≡◌, refl, subst}
 use mathlib.Core.List.{◌++◌}
-use Prim.Native.Nat.{ℕ, ◌*◌, ◌-◌, ◌≤◌}
+use Prim.Native.Nat.{ℕ, ◌*◌}
 use native.Mathlib.Omega.{arith}
-use lib.ListN.{length, drop}
+use lib.ListN.{drop}
 use Rattle.image_bytes.specs.RowBytes.{rows_bytes}
 use Rattle.image_bytes.proofs.RowFronts.{rows_bytes_none, rows_bytes_put}
 use Rattle.image_bytes.proofs.rows.put_columns.Goals as goal
@@ -20,10 +20,6 @@ loop-i-preserved c =
       omega (arith, c.loop-i.invariant.1),
       rows_bytes_put a.leading a.shorts.now a.longs.now a.rows.now _ _ c.loop-i.i c.loop-i.invariant.2 c.put_row.ensures,
     )
-
-pub shape_of-rows : goal.shape_of-rows
-shape_of-rows c =
-    c.loop-i.invariant.1
 
 pub returns : goal.returns
 returns c =

@@ -1,11 +1,9 @@
 -- `image_bytes::rows::put_columns` meets its contract. The loop's invariant: the first i rows are written, and the rest is as it was.
-use mathlib.Core.Path.{◌≡◌, refl, subst}
+use mathlib.Core.Path.{◌≡◌}
 use mathlib.Core.List.{◌++◌}
-use Prim.Native.Nat.{ℕ, ◌*◌, ◌-◌, ◌≤◌}
-use native.Mathlib.Omega.{arith}
+use Prim.Native.Nat.{◌*◌, ◌-◌, ◌≤◌}
 use lib.ListN.{length, drop}
 use Rattle.image_bytes.specs.RowBytes.{rows_bytes}
-use Rattle.image_bytes.proofs.RowFronts.{rows_bytes_none, rows_bytes_put}
 use Rattle.image_bytes.proofs.rows.put_columns.Given as goal
 
 abbrev pub invariant-loop-i : goal.invariant-loop-i

@@ -4,7 +4,6 @@ use mathlib.Core.List.{◌++◌}
 use Prim.Native.Nat.{◌+◌}
 use native.Mathlib.Omega.{arith}
 use lib.ListN.{take, drop}
-use borrow.Author.Rules.{rules}
 use Rattle.sha1_blocks.specs.Fips180.{bytes}
 use Rattle.image_bytes.specs.RowBytes.{row_bytes}
 use Rattle.image_numbers.proofs.Fronts.{put_parts}

@@ -1,21 +1,12 @@
 -- `image_bytes::rows::read_columns` meets its contract. The loop's invariant: both arrays hold the numbers of the first i rows, and are as they were behind.
-use Prim.Native.Nat.{◌-◌, ◌≤◌}
 use native.Mathlib.Omega.{arith}
-use Rattle.image_bytes.proofs.ReadColumns.{Filled, filled_none, filled_more, filled_all}
+use Rattle.image_bytes.proofs.ReadColumns.{filled_none, filled_more, filled_all}
 use Rattle.image_bytes.proofs.rows.read_columns.Goals as goal
 
 pub loop-i-init : goal.loop-i-init
 loop-i-init c =
     let a = c.args in
     (omega arith, filled_none 2 a.short a.rows.now a.shorts.now, filled_none 4 a.long a.rows.now a.longs.now)
-
-pub overflow_cast-shorts : goal.overflow_cast-shorts
-overflow_cast-shorts c =
-    omega (arith, c.number2.ensures.1)
-
-pub overflow_cast-longs : goal.overflow_cast-longs
-overflow_cast-longs c =
-    omega (arith, c.number4.ensures.1)
 
 pub loop-i-preserved : goal.loop-i-preserved
 loop-i-preserved c =
@@ -25,14 +16,6 @@ loop-i-preserved c =
       filled_more 2 a.short a.rows.now a.shorts.now pass.shorts pass.i _ (omega arith) pass.invariant.1 c.number2.ensures.0,
       filled_more 4 a.long a.rows.now a.longs.now pass.longs pass.i _ (omega arith) pass.invariant.2 c.number4.ensures.0,
     )
-
-pub shape_of-shorts : goal.shape_of-shorts
-shape_of-shorts c =
-    c.loop-i.invariant.1.size
-
-pub shape_of-longs : goal.shape_of-longs
-shape_of-longs c =
-    c.loop-i.invariant.2.size
 
 pub returns : goal.returns
 returns c =

@@ -1,7 +1,6 @@
 -- `image_bytes::rows::read_columns` meets its contract. The loop's invariant: both arrays hold the numbers of the first i rows, and are as they were behind.
 use Prim.Native.Nat.{◌-◌, ◌≤◌}
-use native.Mathlib.Omega.{arith}
-use Rattle.image_bytes.proofs.ReadColumns.{Filled, filled_none, filled_more, filled_all}
+use Rattle.image_bytes.proofs.ReadColumns.{Filled}
 use Rattle.image_bytes.proofs.rows.read_columns.Given as goal
 
 abbrev pub invariant-loop-i : goal.invariant-loop-i

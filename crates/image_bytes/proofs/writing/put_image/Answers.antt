@@ -2,7 +2,6 @@
 use native.Mathlib.Omega.{arith}
 use Prim.Native.Nat.{◌+◌, ◌*◌, ◌-◌}
 use lib.ListN.{length, drop, length-take, length-drop}
-use borrow.Author.Rules.{rules}
 use Rattle.pools.proofs.ValidParts.{valid_limited}
 use Rattle.slicing_core.proofs.Fronts.{part_room}
 use Rattle.image_bytes.proofs.WrittenImages.{image_put}

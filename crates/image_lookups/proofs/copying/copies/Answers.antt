@@ -1,5 +1,4 @@
 -- `image_lookups::copying::copies` meets its contract.
-use borrow.Author.Rules.{rules}
 use Rattle.image_lookups.proofs.CopiedCalls.{one_tally, one_row, one_refused, one_copied}
 use Rattle.image_lookups.proofs.copying.copies.Goals as goal
 

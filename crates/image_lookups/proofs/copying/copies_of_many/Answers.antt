@@ -1,6 +1,5 @@
 -- `image_lookups::copying::copies_of_many` meets its contract.
 use native.Mathlib.Omega.{arith}
-use borrow.Author.Rules.{rules}
 use Rattle.images.proofs.OnImages.{on_image_valid}
 use Rattle.image_lookups.proofs.CopiedCalls.{many_tally, many_rows, many_refused, many_copied}
 use Rattle.image_lookups.proofs.copying.copies_of_many.Goals as goal

@@ -1,11 +1,8 @@
 -- `image_lookups::copying::copy_many` meets its contract. The loop's invariant: the rows and the counters of the first i blocks.
-use mathlib.Core.Path.{◌≡◌}
-use Prim.Native.Nat.{ℕ, ◌+◌, ◌*◌, ◌-◌, ◌^◌, ◌≤◌, ◌<◌}
-use native.Mathlib.Omega.{arith}
-use lib.ListN.{length, get_or}
-use borrow.Author.Rules.{rules, length_unmapped}
+use Prim.Native.Nat.{◌-◌}
+use lib.ListN.{length}
 use Rattle.pools.specs.Pools.{state_of}
-use Rattle.image_lookups.proofs.CopiedRows.{answered_arrays, Many, many_none, many_room, many_more, many_all}
+use Rattle.image_lookups.proofs.CopiedRows.{Many}
 use Rattle.image_lookups.proofs.copying.copy_many.Given as goal
 
 abbrev pub invariant-loop-i : goal.invariant-loop-i

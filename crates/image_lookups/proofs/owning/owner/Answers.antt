@@ -1,5 +1,4 @@
 -- `image_lookups::owning::owner` meets its contract.
-use borrow.Author.Rules.{rules}
 use Rattle.image_lookups.proofs.ToldOwners.{owned_short, owned_refused, owned_told}
 use Rattle.image_lookups.proofs.owning.owner.Goals as goal
 

@@ -1,5 +1,4 @@
 -- `image_numbers::head::put_head` meets its contract: each number stands behind the ones before it.
-use borrow.Author.Rules.{rules}
 use Rattle.image_numbers.proofs.Fronts.{head_put}
 use Rattle.image_numbers.proofs.head.put_head.Goals as goal
 

@@ -1,6 +1,5 @@
 -- `image_numbers::numbers::number2` meets its contract: a number in two bytes is read as two in one.
 use native.Mathlib.Omega.{arith}
-use borrow.Author.Rules.{rules}
 use Rattle.image_numbers.proofs.ByteNumbers.{joined}
 use Rattle.image_numbers.proofs.numbers.number2.Goals as goal
 

@@ -1,6 +1,5 @@
 -- `image_numbers::numbers::number4` meets its contract: a number in four bytes is read as two in two.
 use native.Mathlib.Omega.{arith}
-use borrow.Author.Rules.{rules}
 use Rattle.image_numbers.proofs.ByteNumbers.{joined}
 use Rattle.image_numbers.proofs.numbers.number4.Goals as goal
 

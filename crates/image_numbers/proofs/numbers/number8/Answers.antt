@@ -1,5 +1,4 @@
 -- `image_numbers::numbers::number8` meets its contract: a number in eight bytes is read as two in four.
-use borrow.Author.Rules.{rules}
 use Rattle.image_numbers.proofs.ByteNumbers.{joined}
 use Rattle.image_numbers.proofs.numbers.number8.Goals as goal
 

@@ -1,6 +1,5 @@
 -- `image_numbers::numbers::put1` meets its contract.
 use native.Mathlib.Omega.{arith}
-use borrow.Author.Rules.{rules}
 use Rattle.image_numbers.proofs.Fronts.{put_one}
 use Rattle.image_numbers.proofs.numbers.put1.Goals as goal
 

@@ -5,7 +5,6 @@ use Prim.Native.Nat.{◌+◌, ◌/◌, ◌%◌}
 use lib.ListN.{take, drop}
 use Rattle.sha1_blocks.specs.Fips180.{bytes}
 use native.Mathlib.Omega.{arith}
-use borrow.Author.Rules.{rules}
 use Rattle.image_numbers.proofs.Fronts.{put_parts, bytes_halves}
 use Rattle.image_numbers.proofs.numbers.put4.Goals as goal
 

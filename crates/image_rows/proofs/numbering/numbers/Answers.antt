@@ -1,5 +1,4 @@
 -- `image_rows::numbering::numbers` meets its contract.
-use borrow.Author.Rules.{rules}
 use Rattle.image_rows.proofs.ToldPools.{numbered_short, numbered_refused, numbered_told}
 use Rattle.image_rows.proofs.numbering.numbers.Goals as goal
 

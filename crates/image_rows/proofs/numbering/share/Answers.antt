@@ -1,5 +1,4 @@
 -- `image_rows::numbering::share` meets its contract.
-use borrow.Author.Rules.{rules}
 use Rattle.image_rows.proofs.ToldPools.{shared_short, shared_found}
 use Rattle.image_rows.proofs.numbering.share.Goals as goal
 

@@ -1,9 +1,5 @@
 -- `image_rows::rows::devices` meets its contract.
-use mathlib.Core.Path.{◌≡◌}
 use native.Mathlib.Omega.{arith}
-use borrow.Author.Rules.{rules}
-use Rattle.opened.specs.OpenPools.{state_in, Open}
-use Rattle.pools.specs.Pools.{state_of}
 use Rattle.images.specs.Promises.{answer_of}
 use Rattle.image_rows.specs.Promises.{device_numbers}
 use Rattle.image_rows.proofs.ToldPools.{listed_refused, listed_short, listed_told, length_device_numbers}
@@ -16,24 +12,14 @@ returns-then-made-gt0 c =
 
 pub returns-then-rows-opened : goal.returns-then-rows-opened
 returns-then-rows-opened c =
-    let opened : let r = c.read_open-made in
-    Open r.result.opened r.last.1.0 × (state_in r.result.opened r.last.1.0 ≡ state_of r.result.pool) = c.read_open-made.ensures.opened (omega (arith, c.if-made-gt0.false)) in
     let a = c.args in
-    let h = opened in
+    let h = c.read_open-made.ensures.opened (omega arith) in
     listed_short device_numbers a.image.now a.rows.now (answer_of c.read_open-made.result) c.read_open-made.ensures.read c.if-made-gt0.false
     _ h.1 _ (length_device_numbers h.0) c.if-rows-opened.true
 
-pub put_devices-requires : goal.put_devices-requires
-put_devices-requires c =
-    let opened : let r = c.read_open-made in
-    Open r.result.opened r.last.1.0 × (state_in r.result.opened r.last.1.0 ≡ state_of r.result.pool) = c.read_open-made.ensures.opened (omega (arith, c.if-made-gt0.false)) in
-    (opened.0, omega (arith, c.if-rows-opened.false))
-
 pub returns : goal.returns
 returns c =
-    let opened : let r = c.read_open-made in
-    Open r.result.opened r.last.1.0 × (state_in r.result.opened r.last.1.0 ≡ state_of r.result.pool) = c.read_open-made.ensures.opened (omega (arith, c.if-made-gt0.false)) in
     let a = c.args in
-    let h = opened in
+    let h = c.read_open-made.ensures.opened (omega arith) in
     listed_told device_numbers a.image.now a.rows.now (answer_of c.read_open-made.result) c.read_open-made.ensures.read c.if-made-gt0.false
     _ h.1 _ (length_device_numbers h.0) _ c.if-rows-opened.false c.put_devices.ensures

@@ -1,9 +1,9 @@
 -- `image_rows::rows::put_devices` meets its contract. The loop's invariant: the first i rows are written, and the rest is as it was.
 use mathlib.Core.Path.{◌≡◌, refl, subst}
 use mathlib.Core.List.{◌++◌}
-use Prim.Native.Nat.{ℕ, ◌*◌, ◌-◌, ◌≤◌, ◌<◌}
+use Prim.Native.Nat.{ℕ, ◌*◌}
 use native.Mathlib.Omega.{arith}
-use lib.ListN.{length, drop}
+use lib.ListN.{drop}
 use Rattle.slicing.specs.ShareRule.{share_of}
 use Rattle.slicing_core.specs.Rows.{device_rows}
 use Rattle.opened.specs.OpenPools.{devices_in}
@@ -14,28 +14,17 @@ use Rattle.image_rows.proofs.rows.put_devices.Goals as goal
 
 pub loop-i-init : goal.loop-i-init
 loop-i-init c =
-    (omega arith, refl, refl)
-
-pub put_row-requires : goal.put_row-requires
-put_row-requires c =
-    omega (arith, c.loop-i-test.true, c.loop-i.invariant.1, c.requires.1)
-
-pub loop-i-smaller : goal.loop-i-smaller
-loop-i-smaller c =
-    omega (arith, c.loop-i-test.true)
+    (omega arith, refl, open_few c.requires.0, refl)
 
 pub loop-i-preserved : goal.loop-i-preserved
 loop-i-preserved c =
     let o = c.args.opened in (
       omega (arith, c.loop-i-test.true),
       omega (arith, c.loop-i.invariant.1),
+      c.loop-i.invariant.2,
       devices_put (share_of o.range (devices_in o)) o.ids o.capacities c.args.rows.now _ _ c.loop-i.i _
-          (open_share c.requires.0 c.loop-i.i c.loop-i-test.true) c.loop-i.invariant.2 c.put_row.ensures,
+          (open_share c.requires.0 c.loop-i.i c.loop-i-test.true) c.loop-i.invariant.3 c.put_row.ensures,
     )
-
-pub shape_of-rows : goal.shape_of-rows
-shape_of-rows c =
-    c.loop-i.invariant.1
 
 pub returns : goal.returns
 returns c =
@@ -43,39 +32,4 @@ returns c =
     let e : c.loop-i.i ≡ o.devices = omega (arith, c.loop-i.invariant.0, c.loop-i-test.false) in
     subst
     (λ (k : ℕ). c.loop-i.rows ≡ devices_with (share_of o.range (devices_in o)) (device_rows o.ids o.capacities 0 k) ++ drop (3 * k) c.args.rows.now) e
-    c.loop-i.invariant.2
-
-pub offset_bounds-ids-i : goal.offset_bounds-ids-i
-offset_bounds-ids-i c =
-    let row_below : c.loop-i.i < 256 = omega (arith, c.loop-i-test.true, open_few c.requires.0) in
-    omega (arith, row_below)
-
-pub bounds-ids-i : goal.bounds-ids-i
-bounds-ids-i c =
-    let row_below : c.loop-i.i < 256 = omega (arith, c.loop-i-test.true, open_few c.requires.0) in
-    omega (arith, row_below)
-
-pub offset_bounds-capacities-i : goal.offset_bounds-capacities-i
-offset_bounds-capacities-i c =
-    let row_below : c.loop-i.i < 256 = omega (arith, c.loop-i-test.true, open_few c.requires.0) in
-    omega (arith, row_below)
-
-pub bounds-capacities-i : goal.bounds-capacities-i
-bounds-capacities-i c =
-    let row_below : c.loop-i.i < 256 = omega (arith, c.loop-i-test.true, open_few c.requires.0) in
-    omega (arith, row_below)
-
-pub offset_bounds-has-i : goal.offset_bounds-has-i
-offset_bounds-has-i c =
-    let row_below : c.loop-i.i < 256 = omega (arith, c.loop-i-test.true, open_few c.requires.0) in
-    omega (arith, row_below)
-
-pub bounds-has-i : goal.bounds-has-i
-bounds-has-i c =
-    let row_below : c.loop-i.i < 256 = omega (arith, c.loop-i-test.true, open_few c.requires.0) in
-    omega (arith, row_below)
-
-pub overflow_add-i : goal.overflow_add-i
-overflow_add-i c =
-    let row_below : c.loop-i.i < 256 = omega (arith, c.loop-i-test.true, open_few c.requires.0) in
-    omega (arith, row_below)
+    c.loop-i.invariant.3

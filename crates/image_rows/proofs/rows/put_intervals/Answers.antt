@@ -2,10 +2,10 @@
 -- the next interval starts behind them.
 use mathlib.Core.Path.{◌≡◌, refl, ap, ◌∙◌, subst}
 use mathlib.Core.List.{◌++◌}
-use Prim.Native.Nat.{ℕ, ◌+◌, ◌*◌, ◌-◌, ◌/◌, ◌%◌, ◌≤◌, ◌<◌}
+use Prim.Native.Nat.{ℕ, ◌+◌, ◌*◌, ◌/◌}
 use native.Mathlib.Omega.{arith}
-use lib.ListN.{length, drop}
-use Rattle.slicing.specs.Runs.{total, relabel, intervals}
+use lib.ListN.{drop}
+use Rattle.slicing.specs.Runs.{relabel, intervals}
 use Rattle.slicing_core.specs.Rows.{at}
 use Rattle.packed_runs.specs.Words.{runs}
 use Rattle.opened.proofs.OpenPools.{open_few, open_intervals, open_points}
@@ -16,15 +16,7 @@ use Rattle.image_rows.proofs.rows.put_intervals.Goals as goal
 
 pub loop-i-init : goal.loop-i-init
 loop-i-init c =
-    (omega arith, refl, refl, refl)
-
-pub put_row-requires : goal.put_row-requires
-put_row-requires c =
-    omega (arith, c.loop-i-test.true, c.loop-i.invariant.1, c.requires.1)
-
-pub loop-i-smaller : goal.loop-i-smaller
-loop-i-smaller c =
-    omega (arith, c.loop-i-test.true)
+    (omega arith, refl, refl, open_intervals c.requires.0, refl)
 
 pub loop-i-preserved : goal.loop-i-preserved
 loop-i-preserved c =
@@ -32,13 +24,10 @@ loop-i-preserved c =
       omega (arith, c.loop-i-test.true),
       omega (arith, c.loop-i.invariant.1),
       ap (λ n. n + at c.args.table.now c.loop-i.i / 65536) c.loop-i.invariant.2 ∙ total_runs_more c.args.table.now c.loop-i.i,
+      c.loop-i.invariant.3,
       intervals_put (at o.ids) c.args.table.now c.args.rows.now _ _ c.loop-i.i c.loop-i.start c.loop-i.invariant.2
-          c.loop-i.invariant.3 c.put_row.ensures,
+          c.loop-i.invariant.4 c.put_row.ensures,
     )
-
-pub shape_of-rows : goal.shape_of-rows
-shape_of-rows c =
-    c.loop-i.invariant.1
 
 pub returns : goal.returns
 returns c =
@@ -46,47 +35,12 @@ returns c =
     let e : c.loop-i.i ≡ o.intervals = omega (arith, c.loop-i.invariant.0, c.loop-i-test.false) in
     subst
     (λ (k : ℕ). c.loop-i.rows ≡ intervals_as (intervals 0 (relabel (at o.ids) (runs c.args.table.now 0 k))) ++ drop (3 * k) c.args.rows.now) e
-    c.loop-i.invariant.3
-
-pub offset_bounds-table-i : goal.offset_bounds-table-i
-offset_bounds-table-i c =
-    let below : c.loop-i.i < 4096 = omega (arith, c.loop-i-test.true, open_intervals c.requires.0) in
-    omega (arith, below)
-
-pub bounds-table-i : goal.bounds-table-i
-bounds-table-i c =
-    let below : c.loop-i.i < 4096 = omega (arith, c.loop-i-test.true, open_intervals c.requires.0) in
-    omega (arith, below)
-
-pub offset_bounds-table-i-in-loop-i : goal.offset_bounds-table-i-in-loop-i
-offset_bounds-table-i-in-loop-i c =
-    let below : c.loop-i.i < 4096 = omega (arith, c.loop-i-test.true, open_intervals c.requires.0) in
-    omega (arith, below)
-
-pub bounds-table-i-in-loop-i : goal.bounds-table-i-in-loop-i
-bounds-table-i-in-loop-i c =
-    let below : c.loop-i.i < 4096 = omega (arith, c.loop-i-test.true, open_intervals c.requires.0) in
-    omega (arith, below)
-
-pub offset_bounds-ids-row : goal.offset_bounds-ids-row
-offset_bounds-ids-row c =
-    let row_below : at c.args.table.now c.loop-i.i % 65536 < 256 = let h = c.requires.0 in
-    omega (arith, h.labels c.loop-i.i c.loop-i-test.true, open_few h) in
-    omega (arith, row_below)
+    c.loop-i.invariant.4
 
 pub bounds-ids-row : goal.bounds-ids-row
 bounds-ids-row c =
-    let row_below : at c.args.table.now c.loop-i.i % 65536 < 256 = let h = c.requires.0 in
-    omega (arith, h.labels c.loop-i.i c.loop-i-test.true, open_few h) in
-    omega (arith, row_below)
+    omega (arith, c.requires.0.labels c.loop-i.i c.loop-i-test.true, open_few c.requires.0)
 
 pub overflow_add-start : goal.overflow_add-start
 overflow_add-start c =
-    let end_below : c.loop-i.start + at c.args.table.now c.loop-i.i / 65536 ≤ 4294967296 = let l = c.loop-i in
-    omega (arith, l.invariant.2, total_runs_le c.args.table.now l.i c.args.opened.intervals c.loop-i-test.true, open_points c.requires.0) in
-    omega (arith, end_below)
-
-pub overflow_add-i : goal.overflow_add-i
-overflow_add-i c =
-    let below : c.loop-i.i < 4096 = omega (arith, c.loop-i-test.true, open_intervals c.requires.0) in
-    omega (arith, below)
+    omega (arith, total_runs_le c.args.table.now c.loop-i.i c.args.opened.intervals c.loop-i-test.true, open_points c.requires.0)

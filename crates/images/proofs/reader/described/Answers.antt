@@ -1,5 +1,4 @@
 -- `images::reader::described` meets its contract: the numbers of the head and the columns of the rows are those of the bytes.
-use borrow.Author.Rules.{rules}
 use Rattle.images.proofs.PoolsRead.{described_pool}
 use Rattle.images.proofs.reader.described.Goals as goal
 
@@ -8,5 +7,5 @@ returns c =
     let intervals = c.interval_rows in
     let devices = c.device_rows in
     described_pool c.args.image.now c.args.n c.args.q c.number8-range.result c.number2-limit.result
-    _ _ _ _ c.requires.n_value.0 c.requires.n_value.1 c.number8-range.ensures c.number2-limit.ensures.0 devices.ensures.0
-    devices.ensures.1 intervals.ensures.0 intervals.ensures.1
+    _ _ _ _ c.requires.n_value.0 c.requires.n_value.1 c.number8-range.ensures c.number2-limit.ensures.0 devices.ensures.ids
+    devices.ensures.capacities intervals.ensures.starts intervals.ensures.owners

@@ -1,5 +1,4 @@
 -- `images::reader::read` meets its contract: `read_open` answers it.
-use borrow.Author.Rules.{rules}
 use Rattle.images.proofs.reader.read.Goals as goal
 
 pub read_open-made-requires : goal.read_open-made-requires

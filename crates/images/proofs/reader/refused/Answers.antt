@@ -1,6 +1,5 @@
 -- `images::reader::refused` meets its contract: the fresh pool is that of R = 1 and M = 1.
 use mathlib.Core.Path.{refl, ap}
-use borrow.Author.Rules.{rules}
 use Rattle.pools.specs.declared.PoolAnswer.{PoolAnswer}
 use Rattle.images.proofs.reader.refused.Goals as goal
 

@@ -1,20 +1,15 @@
 -- `images::writer::write` meets its contract: 2, then what `store` answers.
-use borrow.Author.Rules.{rules}
-use borrow.Author.Tests.{not-true, not-false}
-use Rattle.pools.specs.Pools.{ValidPool}
 use Rattle.images.proofs.WriteAnswers.{written_invalid, written_valid}
 use Rattle.images.proofs.writer.write.Goals as goal
 
 pub returns-then-not-valid : goal.returns-then-not-valid
 returns-then-not-valid c =
-    written_invalid c.args.pool (rw (not-true c.valid.result c.if-not-valid.true) at c.valid.ensures) c.args.buffer.now
+    written_invalid c.args.pool (rw c.if-not-valid.true at c.valid.ensures) c.args.buffer.now
 
 pub store-requires : goal.store-requires
 store-requires c =
-    let valid_pool : ValidPool c.args.pool = rw (not-false c.valid.result c.if-not-valid.false) at c.valid.ensures in
-    valid_pool
+    rw c.if-not-valid.false at c.valid.ensures
 
 pub returns : goal.returns
 returns c =
-    let valid_pool : ValidPool c.args.pool = rw (not-false c.valid.result c.if-not-valid.false) at c.valid.ensures in
-    written_valid _ valid_pool c.args.buffer.now _ _ (c.store.ensures.answer, c.store.ensures.buffer)
+    written_valid _ (rw c.if-not-valid.false at c.valid.ensures) c.args.buffer.now _ _ (c.store.ensures.answer, c.store.ensures.buffer)

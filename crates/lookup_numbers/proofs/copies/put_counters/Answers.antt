@@ -1,5 +1,4 @@
 -- `lookup_numbers::copies::put_counters` meets its contract.
-use borrow.Author.Rules.{rules}
 use Rattle.lookup_numbers.proofs.PutNumbers.{put_two}
 use Rattle.lookup_numbers.proofs.copies.put_counters.Goals as goal
 

@@ -1,15 +1,10 @@
 -- `lookup_numbers::copies::put_owners` meets its contract. The loop's invariant: the first i owners are put, and the rest is as it was.
-use mathlib.Core.Path.{◌≡◌, refl, ◌∙◌}
-use Prim.Native.Nat.{◌+◌, ◌-◌, ◌≤◌}
+use mathlib.Core.Path.{◌∙◌}
+use Prim.Native.Nat.{◌+◌}
 use native.Mathlib.Omega.{arith}
-use lib.ListN.{length, length-set}
-use lib.Seq.{paste, paste-zero}
+use lib.ListN.{length-set}
 use Rattle.lookup_numbers.proofs.PutNumbers.{owners_put, owners_all}
 use Rattle.lookup_numbers.proofs.copies.put_owners.Goals as goal
-
-pub loop-i-init : goal.loop-i-init
-loop-i-init c =
-    (omega arith, refl, paste-zero c.args.row.now 1 c.args.owners.now)
 
 pub loop-i-preserved : goal.loop-i-preserved
 loop-i-preserved c =
@@ -19,10 +14,6 @@ loop-i-preserved c =
       length-set l.row (l.i + 1) c.wide16.result ∙ l.invariant.1,
       owners_put a.row.now a.owners.now l.row l.i c.wide16.result c.requires.1 (omega (arith, c.requires)) (omega arith) c.wide16.ensures l.invariant.2,
     )
-
-pub shape_of-row : goal.shape_of-row
-shape_of-row c =
-    c.loop-i.invariant.1
 
 pub returns : goal.returns
 returns c =

@@ -1,10 +1,8 @@
 -- `lookup_numbers::copies::put_owners` meets its contract. The loop's invariant: the first i owners are put, and the rest is as it was.
-use mathlib.Core.Path.{◌≡◌, refl, ◌∙◌}
-use Prim.Native.Nat.{◌+◌, ◌-◌, ◌≤◌}
-use native.Mathlib.Omega.{arith}
-use lib.ListN.{length, length-set}
-use lib.Seq.{paste, paste-zero}
-use Rattle.lookup_numbers.proofs.PutNumbers.{owners_put, owners_all}
+use mathlib.Core.Path.{◌≡◌}
+use Prim.Native.Nat.{◌-◌, ◌≤◌}
+use lib.ListN.{length}
+use lib.Seq.{paste}
 use Rattle.lookup_numbers.proofs.copies.put_owners.Given as goal
 
 abbrev pub invariant-loop-i : goal.invariant-loop-i

@@ -1,12 +1,11 @@
 -- `lookup_numbers::owners::put_owner` meets its contract.
-use borrow.Author.Rules.{rules}
 use Rattle.lookup_numbers.proofs.PutNumbers.{told_owner, told_none}
 use Rattle.lookup_numbers.proofs.owners.put_owner.Goals as goal
 
 pub returns-in-Owner : goal.returns-in-Owner
 returns-in-Owner c =
-    told_owner c.args.answer.now c.args.found _ _ c.found-1.given.1 c.put1.ensures
+    told_owner c.args.answer.now c.args.found _ _ c.in-Owner.is c.put1.ensures
 
 pub returns-in-Refused : goal.returns-in-Refused
 returns-in-Refused c =
-    told_none c.args.answer.now c.args.found _ _ c.found-in-Refused-1.given.1 c.put1-in-Refused.ensures
+    told_none c.args.answer.now c.args.found _ _ c.in-Refused.is c.put1-in-Refused.ensures

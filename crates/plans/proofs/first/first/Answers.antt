@@ -5,4 +5,4 @@ use Rattle.plans.proofs.first.first.Goals as goal
 
 pub returns : goal.returns
 returns c =
-    let a = c.args in let pre = (c.requires.le_range, (c.requires.le_id, c.requires.ids_len)) in record { planned = planned_only a.before a.id a.capacity a.next.now pre.0 pre.1.0 pre.1.1; next_len = search rules }
+    let a = c.args in record { planned = planned_only a.before a.id a.capacity a.next.now c.requires.le_range c.requires.le_id c.requires.ids_len; next_len = search rules }

@@ -5,6 +5,7 @@ use native.Mathlib.Omega.{arith}
 use Rattle.plans.specs.Labels.{lowered}
 use Rattle.plans.proofs.LabelSteps.{InPlace, lowered_to, lowered_above, renamed_end, in_place_none, in_place_on, in_place_put}
 use Rattle.plans.proofs.labels.lower.Goals as goal
+use Rattle.plans.proofs.labels.lower.Goals.{then-run-row, else-run-row}
 
 pub loop-i-init : goal.loop-i-init
 loop-i-init c =
@@ -13,8 +14,10 @@ loop-i-init c =
 pub loop-i-preserved : goal.loop-i-preserved
 loop-i-preserved c =
     let kept = c.loop-i.invariant in
-    ⊎_elim (λ w. rw w.1 (in_place_put kept _ c.loop-i-test.true c.requires.0 (lowered_above _ _ w.0.taken)))
-    (λ w. rw w.1 (in_place_on kept c.loop-i-test.true (lowered_to _ _ w.0.left))) c.if-run-row.branch
+    elim c.if-run-row.branch [
+      | then-run-row w ↦ rw w.table-is (in_place_put kept _ c.loop-i-test.true c.requires.0 (lowered_above _ _ w.if-run-row.true))
+      | else-run-row w ↦ rw w.table-is (in_place_on kept c.loop-i-test.true (lowered_to _ _ w.if-run-row.false))
+    ]
 
 pub returns : goal.returns
 returns c =

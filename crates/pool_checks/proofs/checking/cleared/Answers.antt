@@ -2,7 +2,6 @@
 use mathlib.Core.Path.{◌≡◌, sym, ◌∙◌}
 use lib.ListN.{length}
 use borrow.Author.Rules.{rules}
-use borrow.Author.Tests.{not-true, not-false}
 use Rattle.pools.specs.Pools.{Cleared, Zeros}
 use Rattle.pool_checks.proofs.Deciding.{decides_iff}
 use Rattle.pool_checks.proofs.checking.cleared.Goals as goal
@@ -15,7 +14,7 @@ unused-requires c =
 
 pub returns-then-not-unused : goal.returns-then-not-unused
 returns-then-not-unused c =
-    λ z. (rw (not-true c.unused.result c.if-not-unused.true) at c.unused.ensures) (z.no_ids, z.no_capacities)
+    λ z. (rw c.if-not-unused.true at c.unused.ensures) (z.no_ids, z.no_capacities)
 
 pub unused-requires-2 : goal.unused-requires-2
 unused-requires-2 c =
@@ -26,6 +25,6 @@ unused-requires-2 c =
 pub returns : goal.returns
 returns c =
     let p = c.args.pool in
-    let free = rw (not-false c.unused.result c.if-not-unused.false) at c.unused.ensures in
+    let free = rw c.if-not-unused.false at c.unused.ensures in
     decides_iff {P = Zeros p.owners p.intervals × Zeros p.starts p.intervals} {Q = Cleared p} c.unused-2.result
     (λ h. record { no_ids = free.0; no_capacities = free.1; no_starts = h.1; no_owners = h.0 }) (λ z. (z.no_owners, z.no_starts)) c.unused-2.ensures

@@ -4,7 +4,6 @@ use Prim.Native.Nat.{◌-◌}
 use native.Mathlib.Omega.{arith}
 use lib.Dec.{eqb}
 use borrow.Author.Rules.{rules}
-use borrow.Author.Tests.{not-true, not-false}
 use Rattle.slicing.specs.Devices.{present}
 use Rattle.slicing_core.specs.Rows.{at, device_rows}
 use Rattle.pool_checks.proofs.RowSteps.{Rowing, rowing_none, rowing_short, rowing_unknown, rowing_step, rows_first, rows_none}

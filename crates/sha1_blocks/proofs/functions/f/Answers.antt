@@ -1,5 +1,5 @@
 -- `sha1_blocks::functions::f` meets its contract: its tests are those of the definition.
-use Rattle.std.proofs.Common.{rules, le-ltb, lt-ltb}
+use Rattle.std.proofs.Common.{le-ltb, lt-ltb}
 use Rattle.sha1_blocks.specs.Fips180.{f}
 use Rattle.sha1_blocks.proofs.functions.f.Goals as goal
 

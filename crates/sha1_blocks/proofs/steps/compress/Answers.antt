@@ -1,5 +1,4 @@
 -- `sha1_blocks::steps::compress` meets its contract, from what each step ensures.
-use Rattle.std.proofs.Common.{rules}
 use Rattle.sha1_blocks.specs.Fips180.{compress}
 use Rattle.sha1_blocks.proofs.steps.compress.Goals as goal
 

@@ -1,5 +1,5 @@
 -- `sha1_blocks::steps::extend` meets its contract. The loop's invariant: the words `first` to t - 1 are formed in place.
-use Rattle.std.proofs.Common.{◌≡◌, suc, ◌+◌, ◌-◌, ◌≤◌, length, ◌∙◌, arith, length-set}
+use Rattle.std.proofs.Common.{◌≡◌, ◌-◌, ◌≤◌, length}
 use Rattle.sha1_blocks.specs.InPlace.{extended}
 use Rattle.sha1_blocks.proofs.steps.extend.Given as goal
 

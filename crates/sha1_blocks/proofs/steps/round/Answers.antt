@@ -1,5 +1,4 @@
 -- `sha1_blocks::steps::round` meets its contract, from what the rotations, the sums, f and k ensure.
-use Rattle.std.proofs.Common.{rules}
 use Rattle.sha1_blocks.specs.Fips180.{round}
 use Rattle.sha1_blocks.proofs.steps.round.Goals as goal
 

@@ -1,5 +1,4 @@
 -- `sha1_blocks::steps::rounds` meets its contract: four times twenty rounds are the eighty.
-use Rattle.std.proofs.Common.{rules}
 use Rattle.sha1_blocks.proofs.Rounds.{rounds_more}
 use Rattle.sha1_blocks.proofs.steps.rounds.Goals as goal
 

@@ -1,5 +1,5 @@
 -- `sha1_blocks::steps::schedule` meets its contract. The loop's invariant: the first `t` words of `w` are the block's.
-use Rattle.std.proofs.Common.{◌≡◌, ◌-◌, ◌<◌, ◌≤◌, length, take, ◌∙◌, add-one, arith, length-set, take_all, take-suc, take-suc-set, rules}
+use Rattle.std.proofs.Common.{◌≡◌, ◌<◌, length, ◌∙◌, add-one, arith, length-set, take_all, take-suc, take-suc-set}
 use Rattle.sha1_blocks.proofs.Schedule.{extended_more, extended_schedule}
 use Rattle.sha1_blocks.proofs.steps.schedule.Goals as goal
 

@@ -1,6 +1,5 @@
 -- `sha1_blocks::steps::schedule` meets its contract. The loop's invariant: the first `t` words of `w` are the block's.
-use Rattle.std.proofs.Common.{◌≡◌, ◌-◌, ◌<◌, ◌≤◌, length, take, ◌∙◌, add-one, arith, length-set, take_all, take-suc, take-suc-set, rules}
-use Rattle.sha1_blocks.proofs.Schedule.{extended_more, extended_schedule}
+use Rattle.std.proofs.Common.{◌≡◌, ◌-◌, ◌≤◌, length, take}
 use Rattle.sha1_blocks.proofs.steps.schedule.Given as goal
 
 abbrev pub invariant-loop-t : goal.invariant-loop-t

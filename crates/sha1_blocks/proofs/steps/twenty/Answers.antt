@@ -1,5 +1,5 @@
 -- `sha1_blocks::steps::twenty` meets its contract. The loop's invariant: `v` are the variables after the rounds from `first` to t - 1.
-use Rattle.std.proofs.Common.{◌≡◌, suc, ◌+◌, ◌-◌, ◌≤◌, arith, rules}
+use Rattle.std.proofs.Common.{◌≡◌, suc, ◌+◌, ◌-◌, arith}
 use Rattle.sha1_blocks.specs.Fips180.{rounds}
 use Rattle.sha1_blocks.proofs.steps.twenty.Goals as goal
 

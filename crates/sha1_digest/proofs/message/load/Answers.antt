@@ -1,12 +1,10 @@
 -- `sha1_digest::message::load` meets its contract. The loop's invariant: the first `t` words of `w` are the block's.
 use mathlib.Core.Path.{◌≡◌, sym, ◌∙◌}
-use Prim.Native.Nat.{◌≤◌, ◌*◌, ◌-◌}
 use native.Mathlib.Numerals.{add-one}
 use native.Mathlib.Omega.{arith}
-use lib.ListN.{length, take, length-set}
+use lib.ListN.{length-set}
 use lib.Seq.{take_all, take-suc-set}
-use borrow.Author.Rules.{rules}
-use Rattle.sha1_blocks.specs.Fips180.{pad, words_from, block}
+use Rattle.sha1_blocks.specs.Fips180.{block}
 use Rattle.sha1_digest.proofs.Blocks.{words_from_suc}
 use Rattle.sha1_blocks.proofs.Padding.{length_pad}
 use Rattle.sha1_digest.proofs.message.load.Goals as goal

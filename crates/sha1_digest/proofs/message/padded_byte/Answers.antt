@@ -3,7 +3,6 @@ use mathlib.Core.List.{List}
 use mathlib.Core.Path.{sym}
 use Prim.Native.Nat.{ℕ}
 use native.Mathlib.Omega.{arith}
-use borrow.Author.Rules.{rules}
 use Rattle.sha1_blocks.proofs.Padding.{length_pad, get_d_pad_message, get_d_pad_mark, get_d_pad_zero, get_d_pad_field}
 use Rattle.sha1_digest.proofs.message.padded_byte.Goals as goal
 

@@ -1,7 +1,6 @@
 -- `sha1_digest::message::padded_word` meets its contract. That the places fit a `usize` follows from the padded message's length.
 use mathlib.Core.Path.{sym, ◌∙◌}
 use native.Mathlib.Omega.{arith}
-use borrow.Author.Rules.{rules}
 use Rattle.sha1_blocks.proofs.Padding.{length_pad, word_pad}
 use Rattle.sha1_digest.proofs.message.padded_word.Goals as goal
 

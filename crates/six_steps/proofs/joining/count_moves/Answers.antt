@@ -1,9 +1,9 @@
 -- `six_steps::joining::count_moves` meets its contract. The loop's invariant: the moves counted and those of the turns that are left are all.
-use mathlib.Core.Logic.{⊎_elim}
 use Prim.Native.Nat.{◌-◌}
 use native.Mathlib.Omega.{arith}
 use Rattle.six_steps.proofs.CountSteps.{Counted, counted_none, counted_on, counted_more, counted_end}
 use Rattle.six_steps.proofs.joining.count_moves.Goals as goal
+use Rattle.six_steps.proofs.joining.count_moves.Goals.{then-turn, else-turn}
 
 pub loop-i-init : goal.loop-i-init
 loop-i-init c =
@@ -17,7 +17,10 @@ pub loop-i-preserved : goal.loop-i-preserved
 loop-i-preserved c =
     let w = c.loop-i.invariant in
     let h = c.loop-i-test.true in
-    ⊎_elim (λ s. rw s.1 (counted_more w h s.0.taken)) (λ s. rw s.1 (counted_on w h s.0.left)) c.if-turn.branch
+    elim c.if-turn.branch [
+      | then-turn s ↦ rw s.count-is (counted_more w h s.if-turn.true)
+      | else-turn s ↦ rw s.count-is (counted_on w h s.if-turn.false)
+    ]
 
 pub returns : goal.returns
 returns c =

@@ -14,7 +14,7 @@ open-checked-requires c =
 pub returns-then-not-checked : goal.returns-then-not-checked
 returns-then-not-checked c =
     let o = c.open-checked in
-    invalid (rw (not-true o.result.valid c.if-not-checked.true) at o.ensures.0) c.not_found.ensures
+    invalid (rw (not-true o.result.valid c.if-not-checked.true) at o.ensures.valid) c.not_found.ensures
 
 pub find_device-requires : goal.find_device-requires
 find_device-requires c =
@@ -25,8 +25,8 @@ pub returns : goal.returns
 returns c =
     let is_valid : c.open-checked.result.valid ≡ true = not-false c.open-checked.result.valid c.if-not-checked.false in
     let o = c.open-checked in
-    found (rw is_valid at o.ensures.0)
+    found (rw is_valid at o.ensures.valid)
     (record {
       same = c.find_device.ensures.same
-          ∙ ap (λ (s : State). found_of s c.args.id) (o.ensures.1.0 is_valid).1;
+          ∙ ap (λ (s : State). found_of s c.args.id) (o.ensures.opened is_valid).1;
     })

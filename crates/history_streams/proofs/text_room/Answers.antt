@@ -1,9 +1,0 @@
--- `history_streams::text_room` meets its contract.
-use mathlib.Core.Path.{sym}
-use Prim.Native.Nat.{ℕ}
-use lib.ListN.{length-replicate}
-use Rattle.history_streams.proofs.text_room.Goals as goal
-
-pub returns : goal.returns
-returns c =
-    sym (length-replicate {A = ℕ} 65537 0)

@@ -1,7 +1,0 @@
--- `placement::draw_remove` meets its contract: the draft is that of its call.
-use borrow.Author.Rules.{rules}
-use Rattle.placement.proofs.draw_remove.Goals as goal
-
-pub returns : goal.returns
-returns c =
-    search rules
