@@ -2,8 +2,7 @@
 --
 --   Leaving text h from     the reading h and the lines from place `from` on leave what the text leaves
 --
--- Leaving: leaving_none, leaving_step
--- the answers of `pool_after`: left_long, left_whole
+-- leaving_none, leaving_step
 use mathlib.Core.Path.{◌≡◌, sym, ap, ◌∙◌}
 use mathlib.Core.List.{List}
 use Prim.Native.Nat.{ℕ, ◌≤◌, ◌<◌}
@@ -32,11 +31,3 @@ module _ (text : List ℕ) where
     leaving_step p e l h' g = record {
       left = ap (λ (k : Reading). read_all k (lines_of (drop p.next text))) g ∙ sym (read_all_part text from p e l h) ∙ w.left;
     }
-
-    pub left_whole : length text ≤ from → length text ≤ max_text → (p : Pool) → p ≡ pool_of h.pool → Left text (record { refusal = 0; pool = p })
-    left_whole b t p e =
-        let all : h ≡ read_all start (lines_of text) = ap (λ xs. read_all h (lines_of xs)) (sym (drop_of_length-le text {i = from} b)) ∙ w.left in
-        rw (le-ltb max_text (length text) t) (ap (λ p. record { refusal = 0; pool = p }) (e ∙ ap (λ (g : Reading). pool_of g.pool) all))
-
-  pub left_long : max_text < length text → (p : Pool) → p ≡ pool_of (fresh 1 1) → Left text (record { refusal = 2; pool = p })
-  left_long t p e = rw (lt-ltb max_text (length text) t) (ap (λ (q : Pool). record { refusal = 2; pool = q }) e)

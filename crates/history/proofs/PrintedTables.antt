@@ -3,7 +3,7 @@
 --   table_rows_lem           the intervals of a valid pool are those that its arrays give
 --   table_place, table_put   what `put_table` answers and leaves
 --   transcript_reply_answer, transcribed_answer   what the answer of a transcript is says what its reply is
---   transcribed_short, transcribed_long, transcribed_whole   the three answers of `transcript`
+--   transcribed_long, transcribed_whole   two answers of `transcript`
 use mathlib.Core.Path.{◌≡◌, refl, sym, ap, ap₂, ◌∙◌}
 use mathlib.Core.Bool.{Bool, true, false, cond}
 use mathlib.Core.List.{List, [], ◌∷◌, ◌++◌, append_assoc}
@@ -69,9 +69,6 @@ module _ (xs before : List ℕ) where
     reply = ap transcript_reply e ∙ transcript_reply_answer (ltb (length before) room) (length (transcript xs));
     buffer = f;
   }
-
-  pub transcribed_short : length before < room → Transcribed xs before (Refused 17) before
-  transcribed_short h = let e = lt-ltb (length before) room h in transcribed_answer (Refused 17) before (rw e) (rw e)
 
   module _ (h : room ≤ length before) where
     printed : (ys : List ℕ) → transcript xs ≡ ys → (n : ℕ) (after : List ℕ) → n ≡ length ys → after ≡ ys ++ drop (length ys) before

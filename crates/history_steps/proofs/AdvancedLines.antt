@@ -7,13 +7,13 @@
 --   planned_few               how many intervals there are after a planned change
 --   advanced_planned          a change line, from the plan of its change
 use mathlib.Core.Path.{◌≡◌, refl, sym, ap, ap₂, ◌∙◌, subst}
-use mathlib.Core.Bool.{Bool, true, false}
+use mathlib.Core.Bool.{Bool, true}
 use mathlib.Core.List.{List}
 use mathlib.Core.Logic.{◌⊎◌, inl, inr}
 use Prim.Native.Nat.{ℕ, zero, suc, ◌≤◌}
 use native.Mathlib.Omega.{arith}
 use lib.ListN.{length, length-replicate}
-use Rattle.slicing.specs.Changes.{State, fresh, change}
+use Rattle.slicing.specs.Changes.{State, change}
 use Rattle.slicing.specs.SixSteps.{move}
 use Rattle.slicing.proofs.Changes.{change_refused}
 use Rattle.packed_runs.specs.Words.{runs, room}
@@ -26,8 +26,8 @@ use Rattle.plans.specs.declared.Plan.{Plan}
 use Rattle.plans.specs.Plans.{Planned}
 use Rattle.calls.specs.Calls.{change_of}
 use Rattle.history_lines.specs.declared.lines.LineAnswer.{LineAnswer}
-use Rattle.history_lines.specs.declared.lines.LineAnswer.TheVariants.{Range, Refused}
-use Rattle.history_steps.specs.Advances.{reading_in, changing, refused, Advanced}
+use Rattle.history_lines.specs.declared.lines.LineAnswer.TheVariants.{Refused}
+use Rattle.history_steps.specs.Advances.{reading_in, changing, Advanced}
 use Rattle.history_steps.specs.Steps.{Reading, Result, places, refusal, result_of, applied}
 use Rattle.history_steps.specs.declared.advancing.Step.{Step}
 use Rattle.history_steps.proofs.OpenReadings.{state_renewed, open_renewed}

@@ -3,11 +3,11 @@
 --   line_declined                 a change line on a valid pool that is refused, from the plan of its change on the pool opened
 --   said_as, said_applied         what a line says, applied, answers the line
 use mathlib.Core.Path.{◌≡◌, sym, ap, ap₂, ◌∙◌, subst}
-use mathlib.Core.Bool.{Bool, true, false}
+use mathlib.Core.Bool.{Bool, true}
 use mathlib.Core.List.{List}
 use Prim.Native.Nat.{ℕ, ◌<◌}
 use native.Mathlib.Omega.{arith}
-use Rattle.slicing.specs.Changes.{State, fresh, Change, Outcome, change}
+use Rattle.slicing.specs.Changes.{State, Change, Outcome, change}
 use Rattle.slicing.proofs.Changes.{change_refused}
 use Rattle.opened.specs.declared.Opened.{Opened}
 use Rattle.opened.specs.OpenPools.{state_in}
@@ -16,16 +16,14 @@ use Rattle.plans.specs.declared.Plan.{Plan}
 use Rattle.plans.specs.Plans.{Planned}
 use Rattle.calls.specs.Calls.{change_of}
 use Rattle.pools.specs.Pools.{state_of, pool_of, ValidPool}
-use Rattle.pools.specs.Promises.{Fresh}
 use Rattle.pools.specs.declared.Pool.{Pool}
-use Rattle.pools.specs.declared.PoolAnswer.{PoolAnswer}
 use Rattle.history_lines.specs.declared.lines.LineAnswer.{LineAnswer}
 use Rattle.history_lines.specs.declared.lines.LineAnswer.TheVariants.{Range, Add, Remove, Resize, Refused}
-use Rattle.history_lines.specs.Lines.{range_outside, line_in}
+use Rattle.history_lines.specs.Lines.{line_in}
 use Rattle.history_lines.proofs.LineLimits.{Fits, line_in_fits}
 use Rattle.history_steps.specs.declared.applying.History.{History}
 use Rattle.history_steps.specs.declared.applying.LineResult.{LineResult}
-use Rattle.history_steps.specs.Promises.{refused, result_line, ranged_line, applied_line, ChangedLine, Said, Applied}
+use Rattle.history_steps.specs.Promises.{refused, result_line, applied_line, ChangedLine, Said, Applied}
 use Rattle.history_steps.specs.Steps.{places}
 use Rattle.history_steps.proofs.AdvancedLines.{places_length}
 

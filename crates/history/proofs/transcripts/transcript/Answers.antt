@@ -1,12 +1,6 @@
 -- `history::transcripts::transcript` meets its contract: 17, then `too long`, then the replay.
-use borrow.Author.Rules.{rules}
-use Rattle.history.proofs.PrintedTables.{transcribed_short, transcribed_long, transcribed_whole}
+use Rattle.history.proofs.PrintedTables.{transcribed_long, transcribed_whole}
 use Rattle.history.proofs.transcripts.transcript.Goals as goal
-
-pub returns-then-out-lt-ROOM : goal.returns-then-out-lt-ROOM
-returns-then-out-lt-ROOM c =
-    let a = c.args in
-    transcribed_short a.text.now a.out.now c.if-out-lt-ROOM.true
 
 pub returns-then-text-gt-LONGEST : goal.returns-then-text-gt-LONGEST
 returns-then-text-gt-LONGEST c =
