@@ -3,19 +3,17 @@
 --   rest_at, end_at xs n         the text from place n on, and where its first line ends in it
 --   ended_part, unended_part xs n    the line with a line end behind it, and the one without
 --
--- part_ended, part_unended   what `part_at` gives of either
 -- part_cases                 a part is one of the two
 -- part_fits                  what it says is within its limits
 -- part_above, part_within    the next one starts behind its place, within the text
-use mathlib.Core.Path.{◌≡◌, refl, sym, ap, ◌∙◌, subst}
+use mathlib.Core.Path.{◌≡◌, refl, sym, subst}
 use mathlib.Core.Bool.{Bool, true, false, cond}
 use mathlib.Core.List.{List}
 use Prim.Native.Nat.{ℕ, ◌+◌, ◌≤◌, ◌<◌}
 use native.Mathlib.Omega.{arith}
 use lib.Dec.{ltb}
 use lib.ListN.{length, take, drop, length-drop}
-use borrow.Author.Tests.{lt-ltb, le-ltb, ltb-true, ltb-false}
-use Rattle.history_lines.specs.declared.lines.LineAnswer.{LineAnswer}
+use borrow.Author.Tests.{ltb-true, ltb-false}
 use Rattle.history_lines.specs.declared.lines.LineAnswer.TheVariants.{Refused}
 use Rattle.history_lines.specs.declared.lines.Part.{Part}
 use Rattle.history_numbers.specs.Cuts.{cut_at}
@@ -37,19 +35,6 @@ module _ (xs : List ℕ) (n : ℕ) where
 
   abbrev pub unended_part : Part
   unended_part = record { said = Refused 1; next = length xs }
-
-  -- what `part_at` gives; ys is the text from n on, as the code makes that part
-  module _ (ys : List ℕ) (y : ys ≡ drop n xs) (e : ℕ) (f : e ≡ cut_at line_end ys) where
-    cut : e ≡ end_at
-    cut = f ∙ ap (cut_at line_end) y
-
-    pub part_ended : e < length ys → (l : LineAnswer) → l ≡ line_in (take e ys) → record { said = l; next = n + e + 1 } ≡ part_at xs n
-    part_ended b l g =
-        let k : end_at < length rest_at = omega (arith, cut, ap length y) in
-        rw (lt-ltb end_at (length rest_at) k) (rw (g, y, cut))
-
-    pub part_unended : length ys ≤ e → record { said = Refused 1; next = length xs } ≡ part_at xs n
-    part_unended b = let k : length rest_at ≤ end_at = omega (arith, cut, ap length y) in rw (le-ltb end_at (length rest_at) k)
 
   module _ (p : Part) (q : p ≡ part_at xs n) where
     pub part_cases : (P : Part → Type 0) → (end_at < length rest_at → P ended_part) → (end_at ≡ length rest_at → P unended_part) → P p

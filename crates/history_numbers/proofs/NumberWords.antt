@@ -1,36 +1,25 @@
--- Laws of the words that are numbers, fractions and capacities.
---
---   NumberRead w r         r is what `number` promises of the word w
---   FractionRead w r       r is what `fraction` promises of the word w
---   Spelled w v            the word w is one to three digits, and they spell v
+-- Laws of the words that are numbers and capacities.
 --
 -- Bool: and_false; outside_low, outside_high
 -- numbers: leading_low, leading_other, leading_single; number_short, number_long, number_led, number_digits
--- fractions: fraction_short, fraction_long, fraction_none; spelled_as, spelled_below, fraction_one, fraction_two, fraction_three
 -- capacities: pointed (a text with a point in it is not all digits), capacity_pointed (a first part, and what stands behind the first point);
---   capacity_none, capacity_whole, capacity_rest, capacity_all; text_size; answer_outside, answer_inside; capacity_reply_answer, capacity_read
-use mathlib.Core.Path.{◌≡◌, refl, sym, ap, ◌∙◌}
+--   capacity_none, capacity_whole, capacity_rest, capacity_all; text_size
+use mathlib.Core.Path.{◌≡◌, refl, sym}
 use mathlib.Core.Bool.{Bool, true, false, cond, ◌&&◌, not}
 use mathlib.Core.List.{List, [], ◌∷◌}
 use Prim.Native.Nat.{ℕ, ◌+◌, ◌*◌, ◌^◌, ◌≤◌, ◌<◌}
 use native.Mathlib.Omega.{arith}
-use native.Mathlib.Nat.{pow-le-pow_right}
 use lib.Dec.{eqb}
 use lib.ListN.{length, get_or, take, drop}
 use lib.Seq.{take-length}
 use borrow.Author.Tests.{lt-ltb, le-ltb, lt-leb, ne_eqb, eqb-true, eqb-false}
-use Rattle.slicing.specs.Limits.{max_capacity, outside}
-use Rattle.slicing.specs.Replies.{replied, declined}
+use Rattle.slicing.specs.Limits.{outside}
 use Rattle.slicing.proofs.Limits.{within_limits}
 use Rattle.history_numbers.specs.Cuts.{cut_at}
-use Rattle.history_numbers.specs.Capacities.{capacity_reply, capacity_answer, parsed_reply, CapacityRead}
-use Rattle.history_numbers.specs.declared.numbers.CapacityAnswer.{CapacityAnswer}
-use Rattle.history_numbers.specs.declared.numbers.CapacityAnswer.TheVariants as Capacity
 use Rattle.history_numbers.specs.Text.{point, split, is_digit, all_digits, spelled, leading_zero, is_number, number_in, is_fraction, fraction_of, thousandths, capacity_in}
-use Rattle.history_numbers.specs.declared.numbers.Parsed.{Parsed}
 use Rattle.history_numbers.specs.declared.numbers.Parsed.TheVariants.{Number, Shapeless}
 use Rattle.history_numbers.proofs.Splitting.{cut_at_below, split_whole, split_cut, split_some, Found, behind, Cut, cut_made, found_whole, cut_split}
-use Rattle.history_numbers.proofs.DigitWords.{no_number, same_number, Answered}
+use Rattle.history_numbers.proofs.DigitWords.{no_number, same_number}
 
 -- ---- Bool
 
@@ -77,82 +66,23 @@ leading_single [] h = refl
 leading_single (b ∷ []) h = refl
 leading_single (b ∷ c ∷ bs) h = absurd (omega arith)
 
-abbrev pub NumberRead : List ℕ → Parsed → Type 0
-NumberRead w r = (r ≡ number_in w) × ((n : ℕ) → r ≡ Number n → n < 10 ^ 10)
-
 module _ (w : List ℕ) where
-  none : is_number w ≡ false → NumberRead w Shapeless
+  none : is_number w ≡ false → Shapeless ≡ number_in w
   unfolding number_in
-  none e = (rw e, λ n k. absurd (no_number n k))
+  none e = rw e
 
-  pub number_short : length w < 1 → NumberRead w Shapeless
+  pub number_short : length w < 1 → Shapeless ≡ number_in w
   number_short h = none (rw (outside_low 10 (length w) h))
 
-  pub number_long : 10 < length w → NumberRead w Shapeless
+  pub number_long : 10 < length w → Shapeless ≡ number_in w
   number_long h = none (rw (outside_high 10 (length w) (omega arith) h))
 
-  pub number_led : 1 < length w → get_or w 0 0 ≤ 48 → NumberRead w Shapeless
+  pub number_led : 1 < length w → get_or w 0 0 ≤ 48 → Shapeless ≡ number_in w
   number_led h l = none (leading_low (not (outside 10 (length w))) w h l)
 
-  pub number_digits : 1 ≤ length w → length w ≤ 10 → leading_zero w ≡ false → (r : Parsed) → Answered w r → NumberRead w r
+  pub number_digits : 1 ≤ length w → length w ≤ 10 → leading_zero w ≡ false → cond (all_digits w) (Number (spelled 0 w)) Shapeless ≡ number_in w
   unfolding number_in
-  number_digits l m z r a =
-      let e : is_number w ≡ all_digits w = rw (within_limits 10 (length w) l m, z) in (
-        rw e a.0,
-        λ n k. omega (arith, a.1 n k, pow-le-pow_right {n = 10} (omega arith) {i = length w} {j = 10} m),
-      )
-
--- ---- fractions
-
-abbrev pub FractionRead : List ℕ → Parsed → Type 0
-FractionRead w r = (r ≡ cond (is_fraction w) (Number (fraction_of w)) Shapeless) × ((n : ℕ) → r ≡ Number n → n < 1000)
-
-module _ (w : List ℕ) where
-  unread : is_fraction w ≡ false → FractionRead w Shapeless
-  unread e = (rw e, λ n k. absurd (no_number n k))
-
-  pub fraction_short : length w < 1 → FractionRead w Shapeless
-  fraction_short h = unread (rw (outside_low 3 (length w) h))
-
-  module _ (l : 1 ≤ length w) where
-    pub fraction_long : 3 < length w → FractionRead w Shapeless
-    fraction_long h = unread (rw (outside_high 3 (length w) l h))
-
-    module _ (m : length w ≤ 3) where
-      digits_decide : is_fraction w ≡ all_digits w
-      digits_decide = rw (within_limits 3 (length w) l m)
-
-      pub fraction_none : (r : Parsed) → Answered w r → r ≡ Shapeless → FractionRead w Shapeless
-      fraction_none r a e = unread (digits_decide ∙ cond_none (all_digits w) (spelled 0 w) (sym a.0 ∙ e))
-
-pub record Spelled (w : List ℕ) (v : ℕ) : Type 0 where
-  pub some : 1 ≤ length w
-  pub few : length w ≤ 3
-  pub answer : Answered w (Number v)
-
-pub spelled_as : (w : List ℕ) → 1 ≤ length w → length w ≤ 3 → (r : Parsed) → Answered w r → (v : ℕ) → r ≡ Number v → Spelled w v
-spelled_as w l m r a v e = record { some = l; few = m; answer = rw e at a }
-
-module _ {w : List ℕ} {v : ℕ} (s : Spelled w v) where
-  pub spelled_below : v < 1000
-  spelled_below = omega (arith, s.answer.1 v refl, pow-le-pow_right {n = 10} (omega arith) {i = length w} {j = 3} s.few)
-
-  spells : (all_digits w ≡ true) × (spelled 0 w ≡ v)
-  spells = cond_some (all_digits w) (spelled 0 w) v (sym s.answer.0)
-
-  read : (x : ℕ) → x ≡ fraction_of w → x < 1000 → FractionRead w (Number x)
-  read x e h = (rw (digits_decide w s.some s.few, spells.0) (ap Number e), λ n k. rw (same_number x n k) at h)
-
-  pub fraction_one : length w ≡ 1 → FractionRead w (Number (100 * v))
-  fraction_one e = read (100 * v) (rw (e, spells.1) (omega arith)) (omega (arith, rw e at (s.answer.1 v refl)))
-
-  pub fraction_two : length w ≡ 2 → FractionRead w (Number (10 * v))
-  fraction_two e = read (10 * v) (rw (e, spells.1) (omega arith)) (omega (arith, rw e at (s.answer.1 v refl)))
-
-  pub fraction_three : (length w ≡ 1 → ⊥) → (length w ≡ 2 → ⊥) → FractionRead w (Number v)
-  fraction_three p q =
-      let e : length w ≡ 3 = omega (arith, p, q, s.some, s.few) in
-      read v (rw (e, spells.1) (omega arith)) spelled_below
+  number_digits l m z = rw (within_limits 10 (length w) l m, z)
 
 -- ---- capacities
 
@@ -211,35 +141,19 @@ module _ (w : List ℕ) (n : ℕ) where
     pub capacity_whole : (v : ℕ) → number_in (take n w) ≡ Number v → n ≡ length w → Number (1000 * v) ≡ capacity_in w
     capacity_whole v e l = rw (whole_in f l, (some_whole v e).0, (some_whole v e).1)
 
-module _ {w : List ℕ} {n : ℕ} {rest : List ℕ} (c : Cut point w n rest) (v : ℕ) (e : number_in (take n w) ≡ Number v) where
-  pub capacity_rest : cond (is_fraction rest) (Number (fraction_of rest)) Shapeless ≡ Shapeless → Shapeless ≡ capacity_in w
-  capacity_rest k = rw (cut_in w n rest c, (some_whole w n v e).0, cond_none (is_fraction rest) (fraction_of rest) k)
+    module _ (i : n ≡ length w → ⊥) (v : ℕ) (e : number_in (take n w) ≡ Number v) where
+      cut : capacity_in w ≡ cond (is_fraction (behind w n)) (Number (1000 * v + fraction_of (behind w n))) Shapeless
+      cut = rw (cut_in (behind w n) (cut_made point w n f i), (some_whole v e).0, (some_whole v e).1)
 
-  pub capacity_all : (u : ℕ) → cond (is_fraction rest) (Number (fraction_of rest)) Shapeless ≡ Number u → Number (1000 * v + u) ≡ capacity_in w
-  capacity_all u k =
-      let s = cond_some (is_fraction rest) (fraction_of rest) u k in
-      rw (cut_in w n rest c, (some_whole w n v e).0, (some_whole w n v e).1, s.0, s.1)
+      pub capacity_rest : cond (is_fraction (behind w n)) (Number (fraction_of (behind w n))) Shapeless ≡ Shapeless → Shapeless ≡ capacity_in w
+      capacity_rest k = rw (cut, cond_none (is_fraction (behind w n)) (fraction_of (behind w n)) k)
+
+      pub capacity_all : (u : ℕ) → cond (is_fraction (behind w n)) (Number (fraction_of (behind w n))) Shapeless ≡ Number u
+          → Number (1000 * v + u) ≡ capacity_in w
+      capacity_all u k =
+          let s = cond_some (is_fraction (behind w n)) (fraction_of (behind w n)) u k in
+          rw (cut, s.0, s.1)
 
 -- the largest text, `9999999999.999`, is far inside 64 bits
 pub text_size : {whole rest : ℕ} → whole < 10 ^ 10 → rest < 1000 → 1000 * whole + rest ≤ 9999999999999
 text_size h l = omega arith
-
--- ---- the answer
-
-module _ (v : ℕ) where
-  pub answer_outside : outside max_capacity v ≡ true → Capacity.Refused 2 ≡ capacity_answer (Number v)
-  answer_outside h = rw h
-
-  pub answer_inside : outside max_capacity v ≡ false → Capacity.Thousandths v ≡ capacity_answer (Number v)
-  answer_inside h = rw h
-
-capacity_reply_answer : (p : Parsed) → capacity_reply (capacity_answer p) ≡ parsed_reply p
-capacity_reply_answer Shapeless = refl
-capacity_reply_answer (Number c) = go (outside max_capacity c)
-  where
-    go : (t : Bool) → capacity_reply (cond t (Capacity.Refused 2) (Capacity.Thousandths c)) ≡ cond t (declined 2) (replied c)
-    go true = refl
-    go false = refl
-
-pub capacity_read : {xs : List ℕ} {r : CapacityAnswer} → r ≡ capacity_answer (capacity_in xs) → CapacityRead xs r
-capacity_read {xs} e = record { answer = e; reply = ap capacity_reply e ∙ capacity_reply_answer (capacity_in xs) }

@@ -4,7 +4,7 @@
 --   behind xs n            what stands behind the place n of xs, as the code makes that part
 --   Cut s xs n ys          xs is cut at n, before its end, and ys stands behind
 --
--- cut_at: cut_at_below (at most the length); cut_here, cut_next, cut_end (the search from a place on)
+-- cut_at: cut_at_below (at most the length)
 -- split: split_whole (no such byte), split_cut (at the first such byte), split_some (at least one part)
 -- parts: part_front, part_back (a part of a slice up to a place, and one from a place on); cut_made, found_whole, cut_split
 use mathlib.Core.Path.{◌≡◌, refl, sym, ap, ◌∙◌}
@@ -14,9 +14,8 @@ use Prim.Native.Nat.{ℕ, suc, ◌+◌, ◌-◌, ◌≤◌, ◌<◌}
 use native.Mathlib.Omega.{arith}
 use native.Mathlib.Numerals.{add-one}
 use lib.Dec.{eqb}
-use lib.ListN.{length, get_or, take, drop, length-drop, drop_of_length-le}
-use lib.Seq.{drop-cons, take_all, length-take-le}
-use borrow.Author.Tests.{eq-eqb, ne_eqb}
+use lib.ListN.{length, take, drop, length-drop}
+use lib.Seq.{take_all, length-take-le}
 use Rattle.history_numbers.specs.Cuts.{cut_at}
 use Rattle.history_numbers.specs.Text.{before, split}
 
@@ -29,24 +28,6 @@ cut_at_below s (b ∷ bs) = go (eqb b s) refl (cut_at_below s bs)
     go : (t : Bool) → eqb b s ≡ t → cut_at s bs ≤ length bs → cut_at s (b ∷ bs) ≤ suc (length bs)
     go true e h = rw e (omega arith)
     go false e h = rw e (omega arith)
-
--- a search from a place on
-module _ (s : ℕ) (xs : List ℕ) (i : ℕ) (e : i + cut_at s (drop i xs) ≡ cut_at s xs) where
-  module _ (h : i < length xs) where
-    pub cut_here : get_or xs i 0 ≡ s → i ≡ cut_at s xs
-    cut_here t =
-        let z : cut_at s (drop i xs) ≡ 0 = rw (drop-cons xs i 0 h, eq-eqb (get_or xs i 0) s t) in
-        omega arith
-
-    pub cut_next : (get_or xs i 0 ≡ s → ⊥) → i + 1 + cut_at s (drop (i + 1) xs) ≡ cut_at s xs
-    cut_next t =
-        let z : cut_at s (drop i xs) ≡ suc (cut_at s (drop (i + 1) xs)) = rw (drop-cons xs i 0 h, ne_eqb (get_or xs i 0) s t, add-one i) in
-        omega arith
-
-  pub cut_end : length xs ≤ i → i ≡ cut_at s xs
-  cut_end h =
-      let z : cut_at s (drop i xs) ≡ 0 = ap (cut_at s) (drop_of_length-le xs {i = i} h) in
-      omega arith
 
 -- ---- split
 

@@ -1,12 +1,8 @@
 -- One line on an opened pool: what `advance` and its parts give is what the definition's line gives.
 --
 --   line_refused              a line that is refused by its text
---   line_early, line_begun    a change line before and after a range line
---   range_again, range_first  a range line after and before another
+--   line_begun                a change line after a range line
 --   advanced_by               from the result that the definition's line gives
---   advanced_as               of equal lines
---   advanced_left             a line that is refused leaves the pool
---   advanced_first            the first range line
 --   places_length             how many places the list of a change line has
 --   planned_few               how many intervals there are after a planned change
 --   advanced_planned          a change line, from the plan of its change
@@ -41,23 +37,10 @@ use Rattle.history_steps.proofs.OpenReadings.{state_renewed, open_renewed}
 pub line_refused : (h : Reading) {l : LineAnswer} (n : ℕ) → l ≡ Refused n → applied h l ≡ refusal h n
 line_refused h n e = ap (applied h) e
 
-module _ (h : Reading) where
-  pub line_early : (call : Call) → h.begun ≡ false → applied h (changing call) ≡ refusal h 3
-  line_early (Add d c) e = rw e
-  line_early (Remove d) e = rw e
-  line_early (Resize d c) e = rw e
-
-  pub line_begun : (call : Call) → h.begun ≡ true → applied h (changing call) ≡ result_of (change h.pool places (change_of call))
-  line_begun (Add d c) e = rw e
-  line_begun (Remove d) e = rw e
-  line_begun (Resize d c) e = rw e
-
-  pub range_again : (R M : ℕ) → h.begun ≡ true → applied h (Range R M) ≡ refusal h 3
-  range_again R M e = rw e
-
-  pub range_first : (R M : ℕ) → h.begun ≡ false
-      → applied h (Range R M) ≡ record { number = 0; moved = 0; count = 0; after = record { begun = true; pool = fresh R M } }
-  range_first R M e = rw e
+line_begun : (h : Reading) (call : Call) → h.begun ≡ true → applied h (changing call) ≡ result_of (change h.pool places (change_of call))
+line_begun h (Add d c) e = rw e
+line_begun h (Remove d) e = rw e
+line_begun h (Resize d c) e = rw e
 
 -- ---- Advanced
 
@@ -70,22 +53,6 @@ advanced_by o e n m k a w = record {
   after = a ∙ sym (ap (λ (q : Result). q.after) e);
   opened = w;
 }
-
-pub advanced_as : {h : Reading} {l m : LineAnswer} {r : Step} {table : List ℕ} → l ≡ m → Advanced h m r table → Advanced h l r table
-advanced_as {h} {l} {m} {r} {table} e = subst (λ (k : LineAnswer). Advanced h k r table) (sym e)
-
-module _ (b : Bool) (o : Opened) (table : List ℕ) where
-  abbrev reading : Reading
-  reading = reading_in b o table
-
-  pub advanced_left : Open o table → (l : LineAnswer) (n : ℕ) → applied reading l ≡ refusal reading n → (r : Step) → r ≡ refused b o n
-      → Advanced reading l r table
-  advanced_left w l n e r f = rw f (advanced_by (refusal reading n) e refl refl refl refl w)
-
-  pub advanced_first : (R M : ℕ) → b ≡ false → (after : Opened) → Open after table × (state_in after table ≡ fresh R M)
-      → Advanced reading (Range R M) (record { refusal = 0; moved = 0; count = 0; begun = true; pool = after }) table
-  advanced_first R M e after f =
-      advanced_by _ (range_first reading R M e) refl refl refl (ap (λ (s : State). record { begun = true; pool = s }) f.1) f.0
 
 pub places_length : length places ≡ 4096
 places_length = length-replicate 4096 (move 0 0 0 0)

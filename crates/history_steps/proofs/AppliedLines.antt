@@ -1,10 +1,6 @@
 -- One line applied to a pool by value.
 --
---   line_before                   a change line before a range line
---   line_invalid                  a change line on a pool that is not valid
---   line_declined, line_accepted  a change line on a valid pool, from the plan of its change on the pool opened
---   fresh_inside                  the fresh pool of numbers within their limits
---   ranged_after, ranged_first    a range line after and before another
+--   line_declined                 a change line on a valid pool that is refused, from the plan of its change on the pool opened
 --   said_as, said_applied         what a line says, applied, answers the line
 use mathlib.Core.Path.{◌≡◌, sym, ap, ap₂, ◌∙◌, subst}
 use mathlib.Core.Bool.{Bool, true, false}
@@ -35,15 +31,9 @@ use Rattle.history_steps.proofs.AdvancedLines.{places_length}
 
 -- ---- a change line
 
-module _ (h : History) (k : Change) (r : LineResult) where
-  pub line_before : r ≡ refused h 3 → h.begun ≡ false → ChangedLine h k r
-  line_before e b = record { valid = λ _. e ∙ rw b; invalid = λ _. e ∙ rw b }
-
-  pub line_invalid : r ≡ refused h 2 → h.begun ≡ true → (ValidPool h.pool → ⊥) → ChangedLine h k r
-  line_invalid e b n = record { valid = λ v. absurd (n v); invalid = λ _. e ∙ rw b }
-
-  line_valid : h.begun ≡ true → ValidPool h.pool → r ≡ result_line (change (state_of h.pool) places k) → ChangedLine h k r
-  line_valid b v e = record { valid = λ _. e ∙ rw b; invalid = λ n. absurd (n v) }
+line_valid : (h : History) (k : Change) (r : LineResult) → h.begun ≡ true → ValidPool h.pool → r ≡ result_line (change (state_of h.pool) places k)
+    → ChangedLine h k r
+line_valid h k r b v e = record { valid = λ _. e ∙ rw b; invalid = λ n. absurd (n v) }
 
 -- of a valid pool, by the plan on the pool opened
 module _ (h : History) (b : h.begun ≡ true) (v : ValidPool h.pool) (o : Opened) (table : List ℕ) (s : state_in o table ≡ state_of h.pool)
@@ -64,25 +54,6 @@ module _ (h : History) (b : h.begun ≡ true) (v : ValidPool h.pool) (o : Opened
       let pool : h.pool ≡ pool_of outcome.state = sym v.same ∙ ap pool_of (sym (u.state ∙ s)) in
       let same : h ≡ record { begun = true; pool = pool_of outcome.state } = ap₂ (λ (t : Bool) (q : Pool). record { begun = t; pool = q }) b pool in
       subst (ChangedLine h (change_of call)) (sym e) (as_settled number (sym u.moved) (sym u.count) same)
-
-  pub line_accepted : m.refusal ≡ 0 → (q : Pool) → q ≡ pool_of (state_in m.after next)
-      → ChangedLine h (change_of call) (record { refusal = 0; moved = m.moved; count = m.count; history = record { begun = true; pool = q } })
-  line_accepted z q e =
-      as_settled (sym z ∙ p.number places places_length) (p.moved places places_length) (p.count places places_length)
-      (ap (λ (q : Pool). record { begun = true; pool = q }) (e ∙ ap pool_of (p.state z places places_length)))
-
--- ---- a range line
-
--- a fresh pool of numbers within their limits
-pub fresh_inside : (R M : ℕ) (a : PoolAnswer) → range_outside R M ≡ false → Fresh R M a → a.pool ≡ pool_of (fresh R M)
-fresh_inside R M a e f = f.pool ∙ rw e
-
-pub ranged_after : (h : History) (R M : ℕ) (r : LineResult) → r ≡ refused h 3 → h.begun ≡ true → r ≡ ranged_line h R M
-ranged_after h R M r e b = e ∙ rw b
-
-pub ranged_first : (h : History) (R M : ℕ) (a : PoolAnswer) → range_outside R M ≡ false → Fresh R M a → h.begun ≡ false
-    → record { refusal = 0; moved = 0; count = 0; history = record { begun = true; pool = a.pool } } ≡ ranged_line h R M
-ranged_first h R M a e f b = rw (b, fresh_inside R M a e f)
 
 -- ---- what the line says decides
 

@@ -12,7 +12,6 @@ use Rattle.lookup_core.specs.Probes.{point_of}
 use Rattle.slicing.specs.Replies.{replied, declined}
 use Rattle.lookups.specs.Promises.{point_reply, owner_reply, probe_outside, Located, owner_answer, LookedIn}
 use Rattle.lookups.specs.declared.OwnerAnswer.{OwnerAnswer}
-use Rattle.lookups.specs.declared.OwnerAnswer.TheVariants as OwnerAnswer
 use Rattle.lookups.specs.declared.PointAnswer.{PointAnswer}
 use Rattle.lookups.specs.declared.PointAnswer.TheVariants.{Point, Refused}
 

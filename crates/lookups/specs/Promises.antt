@@ -20,7 +20,6 @@ use Rattle.lookups.specs.declared.Counters.{Counters}
 use Rattle.lookups.specs.declared.OwnerAnswer.{OwnerAnswer}
 use Rattle.lookups.specs.declared.OwnerAnswer.TheVariants.{Owner, Refused}
 use Rattle.lookups.specs.declared.PointAnswer.{PointAnswer}
-use Rattle.lookups.specs.declared.PointAnswer.TheVariants as PointAnswer
 
 -- ---- replies
 

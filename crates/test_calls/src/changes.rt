@@ -1,11 +1,11 @@
 // Lines that ask for a change: add, remove and resize.
-ghost use Rattle.std.specs.Prelude.{◌≤◌};
-
 use crate::words::{Parsed, is, number, word};
 use crate::{Outcome, pool_images};
 use calls::Call;
 use placement::{ChangeAnswer, Move};
 use pools::Pool;
+use std::io;
+use std::io::Write;
 use test_text::{end_line, first, least, space, spaced, wide32};
 
 // The most places that are lent.
@@ -69,88 +69,70 @@ fn change_of(line: &[u8]) -> Asked {
 }
 
 // Start, length, old and new owner of a move.
-fn one_move(step: Move) {
-    spaced(step.start);
-    spaced(step.length);
-    spaced(step.from);
-    spaced(step.to);
+fn one_move<W: Write>(out: &mut W, step: Move) -> io::Result<()> {
+    spaced(out, step.start)?;
+    spaced(out, step.length)?;
+    spaced(out, step.from)?;
+    spaced(out, step.to)
 }
 
 // The first n moves of a list.
-fn moves(list: [Move; PLACES], n: usize)
-    requires { n ≤ 8448 }
-{
-    let mut i = 0;
-    while i < n {
-        one_move(list[i]);
-        i += 1;
+fn moves<W: Write>(out: &mut W, list: &[Move], n: usize) -> io::Result<()> {
+    for step in list.iter().take(n) {
+        one_move(out, *step)?;
     }
+    Ok(())
 }
 
 fn blank(step: Move) -> bool {
-    if step.start != BLANK {
-        return false;
-    }
-    if step.length != BLANK {
-        return false;
-    }
-    if step.from != BLANK {
-        return false;
-    }
-    step.to == BLANK
+    step.start == BLANK && step.length == BLANK && step.from == BLANK && step.to == BLANK
 }
 
 // How many places of a list, from one up to another, are as before the change.
-fn unchanged(list: [Move; PLACES], from: usize, to: usize) -> usize
-    requires { to ≤ 8448 }
-{
-    let mut found = 0;
-    let mut i = from;
-    while i < to {
-        if blank(list[i]) {
-            found += 1;
-        }
-        i += 1;
-    }
-    found
+fn unchanged(list: &[Move], from: usize, to: usize) -> usize {
+    list.iter()
+        .take(to)
+        .skip(from)
+        .filter(|step| blank(**step))
+        .count()
 }
 
 // The first three numbers of an answer.
-fn print_numbers(answer: ChangeAnswer) {
-    first(wide32(answer.refusal));
-    spaced(answer.moved);
-    spaced(answer.count as u64);
+fn print_numbers<W: Write>(out: &mut W, answer: ChangeAnswer) -> io::Result<()> {
+    first(out, wide32(answer.refusal))?;
+    spaced(out, answer.moved)?;
+    spaced(out, answer.count as u64)
 }
 
 // A line whose pool is given as its image; false where it asks for no change.
-pub fn run(pool: Pool, line: &[u8]) -> bool {
+pub fn run<W: Write>(out: &mut W, pool: Pool, line: &[u8]) -> io::Result<bool> {
     let Asked::Change(call, places) = change_of(line) else {
-        return false;
+        return Ok(false);
     };
     let lent = test_lent_lists::changed(pool, call, least(places, PLACES));
     let list = lent.list;
     let answer = lent.answer;
     let after = answer.pool;
-    print_numbers(answer);
-    space();
-    pool_images::print(after);
-    moves(list, least(answer.count as u64, PLACES));
-    end_line();
-    true
+    print_numbers(out, answer)?;
+    space(out)?;
+    pool_images::print(out, after)?;
+    moves(out, &list, answer.count)?;
+    end_line(out)?;
+    Ok(true)
 }
 
 // A line whose pool is the kept one.
-pub fn run_kept(kept: Pool, line: &[u8]) -> Outcome {
+pub fn run_kept<W: Write>(out: &mut W, kept: Pool, line: &[u8]) -> io::Result<Outcome> {
     let Asked::Change(call, places) = change_of(line) else {
-        return Outcome::bad(kept);
+        return Ok(Outcome::bad(kept));
     };
     let n = least(places, PLACES);
     let lent = test_lent_lists::changed(kept, call, n);
     let list = lent.list;
     let answer = lent.answer;
     let after = answer.pool;
-    print_numbers(answer);
-    spaced(unchanged(list, answer.count, n) as u64);
-    end_line();
-    Outcome::good(after)
+    print_numbers(out, answer)?;
+    spaced(out, unchanged(&list, answer.count, n) as u64)?;
+    end_line(out)?;
+    Ok(Outcome::good(after))
 }

@@ -1,45 +1,43 @@
 // Lines that write the image of a pool: `write` and `reread`. The buffer is of bytes aa before.
-ghost use Rattle.std.specs.Prelude.{◌≤◌, length};
-
 use crate::words::{MOST, Parsed, number, word};
 use crate::{pool_images, printing, spelling};
 use pools::{Pool, PoolAnswer};
+use std::io;
+use std::io::Write;
 use test_text::{end_line, first, space, wide32, within};
 
-fn write_into(pool: Pool, buffer: &mut [u8])
-    requires { length buffer.old ≤ 32768 }
-{
-    printing::written(images::write(pool, &mut *buffer));
-    spelling::bytes(buffer);
-    end_line();
+fn write_into<W: Write>(out: &mut W, pool: Pool, buffer: &mut [u8]) -> io::Result<()> {
+    printing::written(out, images::write(pool, &mut *buffer))?;
+    spelling::bytes(out, buffer)?;
+    end_line(out)
 }
 
-pub fn write(pool: Pool, line: &[u8]) -> bool {
+pub fn write<W: Write>(out: &mut W, pool: Pool, line: &[u8]) -> io::Result<bool> {
     let Parsed::Number(size) = number(word(line, 2)) else {
-        return false;
+        return Ok(false);
     };
     if size > MOST as u64 {
-        return false;
+        return Ok(false);
     }
     let mut buffer = [170u8; MOST];
     let n = within(size as usize, &buffer);
-    write_into(pool, &mut buffer[..n]);
-    true
+    write_into(out, pool, &mut buffer[..n])?;
+    Ok(true)
 }
 
-fn print_read(answer: PoolAnswer) {
+fn print_read<W: Write>(out: &mut W, answer: PoolAnswer) -> io::Result<()> {
     let pool = answer.pool;
-    space();
-    first(wide32(answer.refusal));
-    space();
-    pool_images::print_digest(pool);
-    end_line();
+    space(out)?;
+    first(out, wide32(answer.refusal))?;
+    space(out)?;
+    pool_images::print_digest(out, pool)?;
+    end_line(out)
 }
 
-pub fn reread(pool: Pool) {
+pub fn reread<W: Write>(out: &mut W, pool: Pool) -> io::Result<()> {
     let mut buffer = [170u8; MOST];
-    let size = printing::written(images::write(pool, &mut buffer));
-    spelling::digest(&buffer);
+    let size = printing::written(out, images::write(pool, &mut buffer))?;
+    spelling::digest(out, &buffer)?;
     let n = within(size, &buffer);
-    print_read(images::read(&buffer[..n]));
+    print_read(out, images::read(&buffer[..n]))
 }

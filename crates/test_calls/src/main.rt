@@ -44,8 +44,9 @@
 #![tactic(auto)]
 
 use crate::words::{MOST, is, word};
-use libc::STDOUT_FILENO;
 use pools::Pool;
+use std::io;
+use std::io::{BufWriter, Read, Write};
 use test_text::{Input, PIECE, within};
 
 mod changes;
@@ -88,129 +89,135 @@ impl Outcome {
 
 // A line whose second word is a pool. Here and in what follows false is answered for a line that is none,
 // and then nothing is printed.
-fn pool_line(pool: Pool, line: &[u8]) -> bool {
+fn pool_line<W: Write>(out: &mut W, pool: Pool, line: &[u8]) -> io::Result<bool> {
     if is(line, b"owner", 2) {
-        return lookup_lines::owner(pool, line);
+        return lookup_lines::owner(out, pool, line);
     }
     if is(line, b"copies", 5) {
-        return lookup_lines::copies(pool, line);
+        return lookup_lines::copies(out, pool, line);
     }
     if is(line, b"share", 2) {
-        return lookup_lines::share(pool, line);
+        return lookup_lines::share(out, pool, line);
     }
     if is(line, b"report", 2) {
-        return lookup_lines::report(pool, line);
+        return lookup_lines::report(out, pool, line);
     }
     if is(line, b"write", 2) {
-        return image_lines::write(pool, line);
+        return image_lines::write(out, pool, line);
     }
     if is(line, b"reread", 1) {
-        image_lines::reread(pool);
-        return true;
+        image_lines::reread(out, pool)?;
+        return Ok(true);
     }
-    changes::run(pool, line)
+    changes::run(out, pool, line)
 }
 
 // A line whose second word gives these bytes.
-fn bytes_line(line: &[u8], bytes: &mut [u8]) -> bool {
+fn bytes_line<W: Write>(out: &mut W, line: &[u8], bytes: &mut [u8]) -> io::Result<bool> {
     if is(line, b"sha1", 1) {
-        printing::digest(sha1_digest::digest(bytes));
-        return true;
+        printing::digest(out, sha1_digest::digest(bytes))?;
+        return Ok(true);
     }
     if is(line, b"capacity", 1) {
-        printing::capacity(history::capacity(bytes));
-        return true;
+        printing::capacity(out, history::capacity(bytes))?;
+        return Ok(true);
     }
     if is(line, b"transcript", 1) {
-        transcripts::transcript(bytes);
-        return true;
+        transcripts::transcript(out, bytes)?;
+        return Ok(true);
     }
     if is(line, b"read", 1) {
-        printing::made(images::read(bytes));
-        return true;
+        printing::made(out, images::read(bytes))?;
+        return Ok(true);
     }
     if is(line, b"single", 1) {
-        single_bytes::run(&mut *bytes);
-        return true;
+        single_bytes::run(out, &mut *bytes)?;
+        return Ok(true);
     }
     let answer = images::read(bytes);
     let pool = answer.pool;
-    pool_line(pool, line)
+    pool_line(out, pool, line)
 }
 
 // A line that does not name the kept pool.
-fn other_line(line: &[u8]) -> bool {
+fn other_line<W: Write>(out: &mut W, line: &[u8]) -> io::Result<bool> {
     if is(line, b"point", 3) {
-        return lookup_lines::point(line);
+        return lookup_lines::point(out, line);
     }
     let mut bytes = [0u8; MOST];
     let size = words::bytes(word(line, 1), &mut bytes);
     if size > MOST {
-        return false;
+        return Ok(false);
     }
     let n = within(size, &bytes);
-    bytes_line(line, &mut bytes[..n])
+    bytes_line(out, line, &mut bytes[..n])
 }
 
 // A line whose second word is `.`.
-fn kept_line(kept: Pool, line: &[u8]) -> Outcome {
-    let changed = changes::run_kept(kept, line);
+fn kept_line<W: Write>(out: &mut W, kept: Pool, line: &[u8]) -> io::Result<Outcome> {
+    let changed = changes::run_kept(out, kept, line)?;
     if changed.answered {
-        return changed;
+        return Ok(changed);
     }
-    Outcome {
-        answered: pool_line(kept, line),
+    Ok(Outcome {
+        answered: pool_line(out, kept, line)?,
         pool: kept,
-    }
+    })
 }
 
-fn run(kept: Pool, line: &[u8]) -> Outcome {
+fn run<W: Write>(out: &mut W, kept: Pool, line: &[u8]) -> io::Result<Outcome> {
     if is(line, b"fresh", 2) {
-        return pool_lines::fresh(kept, line);
+        return pool_lines::fresh(out, kept, line);
     }
     if is(line, b"pool", 6) {
-        return pool_lines::pool(kept, line);
+        return pool_lines::pool(out, kept, line);
     }
     if is(line, b"show", 0) {
-        return pool_lines::show(kept);
+        return pool_lines::show(out, kept);
     }
-    if check::same(word(line, 1), b".") {
-        return kept_line(kept, line);
+    if word(line, 1) == b".".as_slice() {
+        return kept_line(out, kept, line);
     }
-    Outcome {
-        answered: other_line(line),
+    Ok(Outcome {
+        answered: other_line(out, line)?,
         pool: kept,
-    }
+    })
 }
 
 // Answers a line, of which reading said whether it was cut off, and gives the pool that is kept afterwards.
-fn answer(kept: Pool, line: &[u8], cut: bool) -> Pool {
+fn answer<W: Write>(out: &mut W, kept: Pool, line: &[u8], cut: bool) -> io::Result<Pool> {
     if !cut {
-        let outcome = run(kept, line);
+        let outcome = run(out, kept, line)?;
         let pool = outcome.pool;
         if outcome.answered {
-            return pool;
+            return Ok(pool);
         }
     }
-    io::write_all(STDOUT_FILENO, b"bad line\n");
-    kept
+    out.write_all(b"bad line\n")?;
+    Ok(kept)
 }
 
-// The number of lines has no limit that could be reached; the count is there for the proof of the end.
-fn main() {
+// Answers the lines of a reader to its end. Their number has no limit that could be reached; the count is
+// there for the proof of the end.
+fn answer_all<R: Read, W: Write>(reader: &mut R, out: &mut W) -> io::Result<()> {
     let made = pools::fresh(1, 1);
     let mut kept = made.pool;
     let mut piece = [0u8; PIECE];
     let mut line = [0u8; LONGEST];
     let mut input = Input::new();
-    let mut left: u64 = u64::MAX;
-    while left > 0 {
-        input = test_text::read_line(input, &mut piece, &mut line);
+    for _ in 0..u64::MAX {
+        input = test_text::read_line(reader, input, &mut piece, &mut line)?;
         if test_text::finished(input) {
-            return;
+            return Ok(());
         }
         let n = within(input.count, &line);
-        kept = answer(kept, &line[..n], input.cut);
-        left -= 1;
+        kept = answer(out, kept, &line[..n], input.cut)?;
     }
+    Ok(())
+}
+
+fn main(rt: HostRuntime) -> io::Result<()> {
+    let mut out = BufWriter::new(rt.alloc(), rt.stdout())?;
+    answer_all(&mut rt.stdin(), &mut out)?;
+    out.flush()
 }

@@ -1,10 +1,11 @@
 // The rows of a pool, of a device's id and another number each: read from a word, and printed as one.
-ghost use Rattle.std.specs.Prelude.{◌≡◌, ◌+◌, ◌*◌, ◌≤◌, ◌<◌, length};
+ghost use Rattle.std.specs.Prelude.{◌+◌, ◌*◌, ◌≤◌, ◌<◌, length};
 
 use crate::words::MOST;
 use crate::{spelling, words};
-use libc::STDOUT_FILENO;
-use test_text::{space, wide16, wide32};
+use std::io;
+use std::io::Write;
+use test_text::space;
 
 // The bytes of a row.
 const ROW: usize = 6;
@@ -34,11 +35,9 @@ fn four(bytes: &[u8], at: usize) -> u64
 fn load(bytes: &[u8], n: usize, id: usize, value: usize, ids: &mut [u16], values: &mut [u32])
     requires { (id ≤ 4) × (value ≤ 2) × (6 * n ≤ length bytes.now) × (n ≤ length ids.old) × (n ≤ length values.old) }
 {
-    let mut i = 0;
-    while i < n {
+    for i in 0..n {
         ids[i] = two(bytes, ROW * i + id) as u16;
         values[i] = four(bytes, ROW * i + value) as u32;
-        i += 1;
     }
 }
 
@@ -65,53 +64,36 @@ pub fn loaded(word: &[u8], id: usize, value: usize, ids: &mut [u16], values: &mu
     true
 }
 
-fn is_zero(id: u16, value: u32) -> bool {
-    if id != 0 {
-        return false;
-    }
-    value == 0
-}
-
-// How many of n rows are left without the rows of zeros at the end.
-fn used(ids: &[u16], values: &[u32], n: usize) -> usize
-    requires { (length ids.now ≡ n) × (length values.now ≡ n) }
-    ensures { result ≤ n }
-{
+// How many rows are left without the rows of zeros at the end.
+fn used(ids: &[u16], values: &[u32]) -> usize {
     let mut found = 0;
-    let mut i = 0;
-    while i < n {
-        if !is_zero(ids[i], values[i]) {
+    for (i, (id, value)) in ids.iter().zip(values).enumerate() {
+        if *id != 0 || *value != 0 {
             found = i + 1;
         }
-        i += 1;
     }
     found
 }
 
 // Prints a device's id and its other number, or the other number first.
-fn print_row(id: u16, value: u32, id_first: bool) {
+fn print_row<W: Write>(out: &mut W, id: u16, value: u32, id_first: bool) -> io::Result<()> {
     if id_first {
-        io::print_hex(STDOUT_FILENO, wide16(id), 4);
-        io::print_hex(STDOUT_FILENO, wide32(value), 8);
-        return;
+        write!(out, "{id:04x}{value:08x}")
+    } else {
+        write!(out, "{value:08x}{id:04x}")
     }
-    io::print_hex(STDOUT_FILENO, wide32(value), 8);
-    io::print_hex(STDOUT_FILENO, wide16(id), 4);
 }
 
-// Prints a word of n rows, of devices or of intervals, which have the owner's id last. Rows of zeros at the
+// Prints a word of rows, of devices or of intervals, which have the owner's id last. Rows of zeros at the
 // end are left out.
-pub fn print(ids: &[u16], values: &[u32], n: usize, id_first: bool)
-    requires { (length ids.now ≡ n) × (length values.now ≡ n) }
-{
-    let shown = used(ids, values, n);
-    space();
+pub fn print<W: Write>(out: &mut W, ids: &[u16], values: &[u32], id_first: bool) -> io::Result<()> {
+    let shown = used(ids, values);
+    space(out)?;
     if shown == 0 {
-        spelling::none();
+        spelling::none(out)?;
     }
-    let mut i = 0;
-    while i < shown {
-        print_row(ids[i], values[i], id_first);
-        i += 1;
+    for (id, value) in ids.iter().zip(values).take(shown) {
+        print_row(out, *id, *value, id_first)?;
     }
+    Ok(())
 }

@@ -5,90 +5,76 @@ use images::WriteAnswer;
 use lookups::{CopiesAnswer, OwnerAnswer, PointAnswer};
 use pools::PoolAnswer;
 use sha1_digest::DigestAnswer;
+use std::io;
+use std::io::Write;
 use test_text::{end_line, first, pair, space, spaced, spaced_signed, wide32};
 use valid_pools::{ReportAnswer, ShareAnswer};
 
-pub fn digest(answer: DigestAnswer) {
+pub fn digest<W: Write>(out: &mut W, answer: DigestAnswer) -> io::Result<()> {
     let list = answer.words;
-    first(wide32(answer.refusal));
-    space();
-    test_text::hexadecimal(&list);
-    end_line();
+    first(out, wide32(answer.refusal))?;
+    space(out)?;
+    test_text::hexadecimal(out, &list)?;
+    end_line(out)
 }
 
-pub fn capacity(answer: CapacityAnswer) {
+pub fn capacity<W: Write>(out: &mut W, answer: CapacityAnswer) -> io::Result<()> {
     match answer {
-        CapacityAnswer::Thousandths(value) => {
-            pair(0, value);
-        }
-        CapacityAnswer::Refused(refusal) => {
-            pair(wide32(refusal), 0);
-        }
+        CapacityAnswer::Thousandths(value) => pair(out, 0, value),
+        CapacityAnswer::Refused(refusal) => pair(out, wide32(refusal), 0),
     }
 }
 
-pub fn point(answer: PointAnswer) {
+pub fn point<W: Write>(out: &mut W, answer: PointAnswer) -> io::Result<()> {
     match answer {
-        PointAnswer::Point(point) => {
-            pair(0, point);
-        }
-        PointAnswer::Refused(refusal) => {
-            pair(wide32(refusal), 0);
-        }
+        PointAnswer::Point(point) => pair(out, 0, point),
+        PointAnswer::Refused(refusal) => pair(out, wide32(refusal), 0),
     }
 }
 
-pub fn owner(answer: OwnerAnswer) {
+pub fn owner<W: Write>(out: &mut W, answer: OwnerAnswer) -> io::Result<()> {
     match answer {
-        OwnerAnswer::Owner(owner) => {
-            pair(0, owner);
-        }
-        OwnerAnswer::Refused(refusal) => {
-            pair(wide32(refusal), 0);
-        }
+        OwnerAnswer::Owner(owner) => pair(out, 0, owner),
+        OwnerAnswer::Refused(refusal) => pair(out, wide32(refusal), 0),
     }
 }
 
-pub fn share(answer: ShareAnswer) {
+pub fn share<W: Write>(out: &mut W, answer: ShareAnswer) -> io::Result<()> {
     match answer {
-        ShareAnswer::Share(points) => {
-            pair(0, points);
-        }
-        ShareAnswer::Refused(refusal) => {
-            pair(wide32(refusal), 0);
-        }
+        ShareAnswer::Share(points) => pair(out, 0, points),
+        ShareAnswer::Refused(refusal) => pair(out, wide32(refusal), 0),
     }
 }
 
-pub fn report(answer: ReportAnswer) {
-    first(wide32(answer.refusal));
-    spaced(answer.whole);
-    spaced(answer.remainder);
-    spaced_signed(answer.difference);
-    end_line();
+pub fn report<W: Write>(out: &mut W, answer: ReportAnswer) -> io::Result<()> {
+    first(out, wide32(answer.refusal))?;
+    spaced(out, answer.whole)?;
+    spaced(out, answer.remainder)?;
+    spaced_signed(out, answer.difference)?;
+    end_line(out)
 }
 
-pub fn copies(answer: CopiesAnswer) {
+pub fn copies<W: Write>(out: &mut W, answer: CopiesAnswer) -> io::Result<()> {
     let list = answer.owners;
     let counters = answer.counters;
-    first(wide32(answer.refusal));
-    test_text::spaced_eight(&list);
-    spaced(wide32(answer.probes));
-    spaced(wide32(counters.lookups));
-    spaced(wide32(counters.probes));
-    end_line();
+    first(out, wide32(answer.refusal))?;
+    test_text::spaced_eight(out, &list)?;
+    spaced(out, wide32(answer.probes))?;
+    spaced(out, wide32(counters.lookups))?;
+    spaced(out, wide32(counters.probes))?;
+    end_line(out)
 }
 
-pub fn made(answer: PoolAnswer) {
+pub fn made<W: Write>(out: &mut W, answer: PoolAnswer) -> io::Result<()> {
     let pool = answer.pool;
-    first(wide32(answer.refusal));
-    space();
-    pool_images::print(pool);
-    end_line();
+    first(out, wide32(answer.refusal))?;
+    space(out)?;
+    pool_images::print(out, pool)?;
+    end_line(out)
 }
 
 // The refusal number and the length of a write, the length also as the answer; the buffer follows.
-pub fn written(answer: WriteAnswer) -> usize {
+pub fn written<W: Write>(out: &mut W, answer: WriteAnswer) -> io::Result<usize> {
     let mut size = 0;
     let mut number = 0;
     match answer {
@@ -99,8 +85,8 @@ pub fn written(answer: WriteAnswer) -> usize {
             number = refusal;
         }
     }
-    first(wide32(number));
-    spaced(size as u64);
-    space();
-    size
+    first(out, wide32(number))?;
+    spaced(out, size as u64)?;
+    space(out)?;
+    Ok(size)
 }

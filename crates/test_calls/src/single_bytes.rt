@@ -2,7 +2,9 @@
 ghost use Rattle.std.specs.Prelude.{◌<◌, length};
 
 use crate::pool_images::is_image;
-use test_text::{end_line, first, narrow8, spaced, wide32};
+use std::io;
+use std::io::Write;
+use test_text::{end_line, first, spaced, wide32};
 
 // How many changed bytes were read and written back, refused with 14, 15, 16, and answered otherwise.
 #[derive(Clone, Copy)]
@@ -43,31 +45,14 @@ fn judged(bytes: &[u8], place: usize) -> u64 {
     wide32(due)
 }
 
-fn one_more(x: u64) -> u64 {
-    if x == u64::MAX {
-        return x;
-    }
-    x + 1
-}
-
 fn counted(tally: Tally, answer: u64) -> Tally {
     let mut next = tally;
     match answer {
-        0 => {
-            next.accepted = one_more(next.accepted);
-        }
-        14 => {
-            next.marks = one_more(next.marks);
-        }
-        15 => {
-            next.versions = one_more(next.versions);
-        }
-        16 => {
-            next.faults = one_more(next.faults);
-        }
-        _ => {
-            next.wrong = one_more(next.wrong);
-        }
+        0 => next.accepted = next.accepted.saturating_add(1),
+        14 => next.marks = next.marks.saturating_add(1),
+        15 => next.versions = next.versions.saturating_add(1),
+        16 => next.faults = next.faults.saturating_add(1),
+        _ => next.wrong = next.wrong.saturating_add(1),
     }
     next
 }
@@ -78,28 +63,26 @@ fn changed(bytes: &mut [u8], place: usize, tally: Tally) -> Tally
 {
     let mut next = tally;
     let was = bytes[place];
-    let mut x = 0;
-    while x < 256 {
-        if narrow8(x) != was {
-            bytes[place] = narrow8(x);
+    for x in 0..=u8::MAX {
+        if x != was {
+            bytes[place] = x;
             next = counted(next, judged(bytes, place));
         }
-        x += 1;
     }
     bytes[place] = was;
     next
 }
 
-fn print(tally: Tally) {
-    first(tally.accepted);
-    spaced(tally.marks);
-    spaced(tally.versions);
-    spaced(tally.faults);
-    spaced(tally.wrong);
-    end_line();
+fn print<W: Write>(out: &mut W, tally: Tally) -> io::Result<()> {
+    first(out, tally.accepted)?;
+    spaced(out, tally.marks)?;
+    spaced(out, tally.versions)?;
+    spaced(out, tally.faults)?;
+    spaced(out, tally.wrong)?;
+    end_line(out)
 }
 
-pub fn run(bytes: &mut [u8]) {
+pub fn run<W: Write>(out: &mut W, bytes: &mut [u8]) -> io::Result<()> {
     let mut tally = Tally {
         accepted: 0,
         marks: 0,
@@ -107,10 +90,8 @@ pub fn run(bytes: &mut [u8]) {
         faults: 0,
         wrong: 0,
     };
-    let mut place = 0;
-    while place < bytes.len() {
+    for place in 0..bytes.len() {
         tally = changed(&mut *bytes, place, tally);
-        place += 1;
     }
-    print(tally);
+    print(out, tally)
 }

@@ -1,25 +1,25 @@
 // The line `transcript`: what `slices` prints of a text.
 use crate::spelling;
 use history::TranscriptAnswer;
+use std::io;
+use std::io::Write;
 use test_text::{end_line, first, pair, space, spaced, wide32, within};
 
-fn run(text: &[u8], out: &mut [u8]) {
-    match history::transcript(text, &mut *out) {
+fn run<W: Write>(out: &mut W, text: &[u8], room: &mut [u8]) -> io::Result<()> {
+    match history::transcript(text, &mut *room) {
         TranscriptAnswer::Printed(size) => {
-            let n = within(size, out);
-            first(0);
-            spaced(n as u64);
-            space();
-            spelling::digest(&out[..n]);
-            end_line();
+            let n = within(size, room);
+            first(out, 0)?;
+            spaced(out, n as u64)?;
+            space(out)?;
+            spelling::digest(out, &room[..n])?;
+            end_line(out)
         }
-        TranscriptAnswer::Refused(refusal) => {
-            pair(wide32(refusal), 0);
-        }
+        TranscriptAnswer::Refused(refusal) => pair(out, wide32(refusal), 0),
     }
 }
 
-pub fn transcript(text: &[u8]) {
-    let mut out = history_streams::transcript_room();
-    run(text, &mut out);
+pub fn transcript<W: Write>(out: &mut W, text: &[u8]) -> io::Result<()> {
+    let mut room = history_streams::transcript_room();
+    run(out, text, &mut room)
 }

@@ -1,8 +1,6 @@
 // The words of a line: numbers and bytes.
 ghost use Rattle.std.specs.Prelude.{◌*◌, ◌≤◌, length};
 
-use bytes::scan::find;
-
 // The most bytes that a word gives.
 pub const MOST: usize = 32768;
 
@@ -13,62 +11,19 @@ pub enum Parsed {
     Bad,
 }
 
-// The place of the first space from a place on, the length where there is none.
-fn space(line: &[u8], from: usize) -> usize
-    requires { from ≤ length line.now }
-    ensures { (from ≤ result) × (result ≤ length line.now) }
-{
-    find(line, from, line.len(), b' ')
-}
-
-// The place behind the next space, the length where there is none.
-fn behind(line: &[u8], from: usize) -> usize
-    requires { from ≤ length line.now }
-    ensures { result ≤ length line.now }
-{
-    let i = space(line, from);
-    if i < line.len() { i + 1 } else { i }
-}
-
-// Where word number k begins, counted from 0; the length where there are fewer.
-fn begin(line: &[u8], k: usize) -> usize
-    ensures { result ≤ length line.now }
-{
-    let mut at = 0;
-    let mut left = k;
-    while left > 0 {
-        at = behind(line, at);
-        left -= 1;
-    }
-    at
-}
-
 // Word number k of a line, counted from 0; no bytes where there are fewer.
 pub fn word(line: &[u8], k: usize) -> &[u8] {
-    let from = begin(line, k);
-    let to = space(line, from);
-    &line[from..to]
+    line.split(|byte| *byte == b' ').nth(k).unwrap_or(&[])
 }
 
 // How many words a line has behind the first.
 fn arguments(line: &[u8]) -> usize {
-    let mut n = 0;
-    let mut i = 0;
-    while i < line.len() {
-        if line[i] == b' ' {
-            n += 1;
-        }
-        i += 1;
-    }
-    n
+    line.iter().filter(|byte| **byte == b' ').count()
 }
 
 // Whether a line has this first word and so many behind it.
 pub fn is(line: &[u8], name: &[u8], n: usize) -> bool {
-    if check::same(word(line, 0), name) {
-        return arguments(line) == n;
-    }
-    false
+    word(line, 0) == name && arguments(line) == n
 }
 
 // A number with a further digit, where the byte is one and the number still fits.
@@ -107,13 +62,11 @@ pub fn number(word: &[u8]) -> Parsed {
         return Parsed::Bad;
     }
     let mut value = 0;
-    let mut i = 0;
-    while i < word.len() {
-        let Parsed::Number(next) = extended(value, word[i]) else {
+    for byte in word {
+        let Parsed::Number(next) = extended(value, *byte) else {
             return Parsed::Bad;
         };
         value = next;
-        i += 1;
     }
     Parsed::Number(value)
 }
@@ -150,18 +103,13 @@ fn nibble(byte: u8) -> u8
 fn decoded(word: &[u8], n: usize, bytes: &mut [u8]) -> bool
     requires { (2 * n ≤ length word.now) × (n ≤ length bytes.old) }
 {
-    let mut i = 0;
-    while i < n {
+    for i in 0..n {
         let high = nibble(word[2 * i]);
         let low = nibble(word[2 * i + 1]);
-        if high > 15 {
-            return false;
-        }
-        if low > 15 {
+        if high > 15 || low > 15 {
             return false;
         }
         bytes[i] = 16 * high + low;
-        i += 1;
     }
     true
 }
@@ -171,7 +119,7 @@ fn decoded(word: &[u8], n: usize, bytes: &mut [u8]) -> bool
 pub fn bytes(word: &[u8], bytes: &mut [u8]) -> usize
     requires { 32768 ≤ length bytes.old }
 {
-    if check::same(word, b"-") {
+    if word == b"-".as_slice() {
         return 0;
     }
     let n = word.len() / 2;

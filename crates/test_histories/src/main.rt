@@ -4,12 +4,12 @@
 // are made from test vectors by tools/test_histories.py. Single lines come first.
 #![tactic(auto)]
 
-ghost use Rattle.std.specs.Prelude.{◌≤◌, length};
-ghost use Rattle.io.specs.Counts.{IsPrefixLen};
 ghost use Rattle.streams.specs.Inputs.{Within};
 
 use history::{ROOM, TranscriptAnswer};
-use libc::STDOUT_FILENO;
+use std::fs::File;
+use std::io::Write;
+use std::{env, io};
 use streams::Input;
 
 mod single_lines;
@@ -24,126 +24,74 @@ enum Verdict {
     Missing,
 }
 
-// Copies a part of a path to place `at` on, as far as there is room; the place behind it.
-fn put(path: &mut [u8], at: usize, part: &[u8]) -> usize
-    requires { at ≤ length path.old }
-    ensures { IsPrefixLen result path.new }
-{
-    let mut end = at;
-    let mut i = 0;
-    while i < part.len() && end < path.len() {
-        path[end] = part[i];
-        end += 1;
-        i += 1;
-    }
-    end
-}
-
-// Opens the file with a name and an ending for reading; -1 where that fails. A path that has no room here
-// is refused by `os`, as it fills all 4,096 bytes.
-fn open(name: &[u8], ending: &[u8]) -> i32 {
-    let mut path = io::buffer();
-    let dot = put(&mut path, 0, name);
-    let end = put(&mut path, dot, ending);
-    os::open_read(&path[..end])
+// Opens the file with a name and an ending for reading.
+fn open(rt: &HostRuntime, name: &str, ending: &str) -> io::Result<File> {
+    let path = format!(in rt.alloc(); "{name}{ending}")?;
+    File::open(rt, path.as_str())
 }
 
 // Reads a file, or as much of it as there is room for, and closes it.
-fn read(fd: i32, bytes: &mut [u8]) -> Input
+fn read(mut file: File, bytes: &mut [u8]) -> Input
     ensures { Within result bytes.new }
 {
-    let input = streams::read_to_end(fd, &mut *bytes);
-    libc::close(fd);
-    input
-}
-
-// Whether the first n bytes are the same.
-fn same(a: &[u8], b: &[u8], n: usize) -> bool
-    requires { (n ≤ length a.now) × (n ≤ length b.now) }
-{
-    let mut i = 0;
-    while i < n {
-        if a[i] != b[i] {
-            return false;
-        }
-        i += 1;
-    }
-    true
+    streams::read_to_end(&mut file, bytes)
 }
 
 // Whether the transcript of a text is what is expected.
 fn agrees(text: &[u8], out: &mut [u8], expected: &[u8]) -> bool {
     match history::transcript(text, &mut *out) {
-        TranscriptAnswer::Printed(n) => {
-            if n != expected.len() {
-                return false;
-            }
-            if n > out.len() {
-                return false;
-            }
-            same(out, expected, n)
-        }
-        TranscriptAnswer::Refused(refusal) => { false }
+        TranscriptAnswer::Printed(n) => n <= out.len() && &out[..n] == expected,
+        TranscriptAnswer::Refused(_) => false,
     }
 }
 
 // Runs the history with a name.
-fn compare(name: &[u8], text: &mut [u8], out: &mut [u8], expected: &mut [u8]) -> Verdict {
-    let text_file = open(name, b".in");
-    if text_file < 0 {
+fn compare(
+    rt: &HostRuntime,
+    name: &str,
+    text: &mut [u8],
+    out: &mut [u8],
+    expected: &mut [u8],
+) -> Verdict {
+    let Ok(text_file) = open(rt, name, ".in") else {
         return Verdict::Missing;
-    }
+    };
     let Input::Read(size) = read(text_file, &mut *text) else {
         return Verdict::Missing;
     };
-    let expected_file = open(name, b".out");
-    if expected_file < 0 {
+    let Ok(expected_file) = open(rt, name, ".out") else {
         return Verdict::Missing;
-    }
+    };
     let Input::Read(due) = read(expected_file, &mut *expected) else {
         return Verdict::Missing;
     };
     if due == expected.len() {
         return Verdict::Different;
     }
-    if agrees(&text[..size], &mut *out, &expected[..due]) {
+    if agrees(&text[..size], out, &expected[..due]) {
         return Verdict::Same;
     }
     Verdict::Different
 }
 
-fn print(name: &[u8], verdict: Verdict) {
-    io::write_all(STDOUT_FILENO, name);
+fn print<W: Write>(out: &mut W, name: &str, verdict: Verdict) -> io::Result<()> {
     match verdict {
-        Verdict::Same => {
-            io::write_all(STDOUT_FILENO, b" same\n");
-        }
-        Verdict::Different => {
-            io::write_all(STDOUT_FILENO, b" different\n");
-        }
-        Verdict::Missing => {
-            io::write_all(STDOUT_FILENO, b" missing\n");
-        }
+        Verdict::Same => writeln!(out, "{name} same"),
+        Verdict::Different => writeln!(out, "{name} different"),
+        Verdict::Missing => writeln!(out, "{name} missing"),
     }
 }
 
-// Runs the history that argument i names.
-fn run(i: usize, text: &mut [u8], out: &mut [u8], expected: &mut [u8]) {
-    let mut name = io::buffer();
-    let n = os::arg(i, &mut name);
-    let verdict = compare(&name[..n], &mut *text, &mut *out, &mut *expected);
-    print(&name[..n], verdict);
-}
-
-fn main() {
-    single_lines::run();
+fn main(rt: HostRuntime) -> io::Result<()> {
+    let mut printed = rt.stdout();
+    single_lines::run(&mut printed)?;
     let mut text = history_streams::text_room();
     let mut expected = [0u8; MOST_EXPECTED];
     let mut out = [0u8; ROOM];
-    let count = os::arg_count();
-    let mut i = 1;
-    while i < count {
-        run(i, &mut text, &mut out, &mut expected);
-        i += 1;
+    for name in env::args(&rt)?.skip(1) {
+        let name = name.as_str();
+        let verdict = compare(&rt, name, &mut text, &mut out, &mut expected);
+        print(&mut printed, name, verdict)?;
     }
+    Ok(())
 }

@@ -56,7 +56,7 @@ fn add(pool: Pool, id: u64, capacity: u64, places: usize) -> Lent
     both(answer, list)
 }
 
-// It has a capacity, which it does not use, so that the three have one proof.
+// It has a capacity, which it does not use, as the other two do.
 fn remove(pool: Pool, id: u64, capacity: u64, places: usize) -> Lent
     ensures { Lends pool (Changes.remove id) places result }
 {

@@ -1,5 +1,5 @@
 -- `history_printing::put_decimal` meets its contract: one digit is put as it is, and the last digit stands behind those of the tenth.
-use mathlib.Core.Path.{◌≡◌, sym, ap}
+use mathlib.Core.Path.{sym, ap}
 use mathlib.Core.List.{[], ◌∷◌}
 use Prim.Native.Nat.{◌+◌, ◌/◌, ◌%◌}
 use native.Mathlib.Omega.{arith}

@@ -1,7 +1,6 @@
 -- `history_printing::put_field` meets its contract: the byte stands behind the digits.
 use mathlib.Core.List.{[], ◌∷◌}
 use native.Mathlib.Omega.{arith}
-use borrow.Author.Rules.{rules}
 use Rattle.history_printing.specs.Printing.{decimal}
 use Rattle.history_printing.proofs.PutBehind.{put_byte, put_behind, length_end}
 use Rattle.history_printing.proofs.put_field.Goals as goal

@@ -1,7 +1,6 @@
 -- `history_printing::put_line` meets its contract: each field stands behind the one before it.
 use mathlib.Core.List.{[], ◌∷◌}
 use native.Mathlib.Omega.{arith}
-use borrow.Author.Rules.{rules}
 use Rattle.history_numbers.specs.Text.{space}
 use Rattle.history_printing.proofs.PutBehind.{fields_behind, length_end, length_four}
 use Rattle.history_printing.proofs.put_line.Goals as goal

@@ -1,7 +1,6 @@
 -- `history_printing::put_rows` meets its contract. The loop's invariant: the first i rows are written.
-use Prim.Native.Nat.{◌-◌}
 use native.Mathlib.Omega.{arith}
-use Rattle.history_printing.proofs.PrintedRows.{Printed, row_fits, printed_none, printed_room, printed_more, printed_all}
+use Rattle.history_printing.proofs.PrintedRows.{row_fits, printed_none, printed_room, printed_more, printed_all}
 use Rattle.history_printing.proofs.put_rows.Goals as goal
 
 pub loop-i-init : goal.loop-i-init

@@ -1,5 +1,4 @@
 -- `lookups::checked_copies` meets its contract: 2 first, then what is found in the arrays of a valid pool.
-use borrow.Author.Rules.{rules}
 use Rattle.lookups.proofs.Promised.{copied_two, copied_in}
 use Rattle.lookups.proofs.checked_copies.Goals as goal
 

@@ -1,5 +1,4 @@
 -- `lookups::checked_owner` meets its contract: 2 first, then what is found in the arrays of a valid pool.
-use borrow.Author.Rules.{rules}
 use Rattle.lookups.proofs.Promised.{looked_two, looked_in}
 use Rattle.lookups.proofs.checked_owner.Goals as goal
 

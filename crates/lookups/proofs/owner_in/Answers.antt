@@ -1,7 +1,6 @@
 -- `lookups::owner_in` meets its contract: 13 before 10, then the owner that halving finds.
 use mathlib.Core.Path.{ap}
 use native.Mathlib.Omega.{arith}
-use borrow.Author.Rules.{rules}
 use borrow.Author.Tests.{le-leb, lt-leb, eq-eqb, ne_eqb}
 use Rattle.lookups.specs.declared.OwnerAnswer.TheVariants.{Owner}
 use Rattle.lookups.proofs.Replies.{looked_answer}

@@ -1,7 +1,6 @@
 -- `lookups::point` meets its contract: the tests are those of `probe_outside`, in their order.
 use mathlib.Core.Path.{ap}
 use native.Mathlib.Omega.{arith}
-use borrow.Author.Rules.{rules}
 use borrow.Author.Tests.{lt-ltb, le-ltb}
 use Rattle.slicing.specs.Limits.{max_range}
 use Rattle.lookups.specs.declared.PointAnswer.TheVariants.{Point}

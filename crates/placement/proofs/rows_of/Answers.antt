@@ -1,10 +1,9 @@
 -- `placement::rows_of` meets its contract. The loop's invariant: the moves of the turns passed stand in the rows, and those of the turns
 -- that are left are all others.
-use Prim.Native.Nat.{◌-◌, ◌<◌}
+use Prim.Native.Nat.{◌<◌}
 use native.Mathlib.Omega.{arith}
-use borrow.Author.Rules.{rules}
 use Rattle.packed_runs.specs.Words.{room}
-use Rattle.placement.proofs.Listing.{Listed, listed_none, listed_size, listed_on, listed_more, listed_end}
+use Rattle.placement.proofs.Listing.{listed_none, listed_size, listed_on, listed_more, listed_end}
 use Rattle.placement.proofs.rows_of.Goals as goal
 use Rattle.placement.proofs.rows_of.Goals.{then-from-to, else-from-to}
 

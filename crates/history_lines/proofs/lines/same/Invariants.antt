@@ -1,10 +1,8 @@
 -- `history_lines::lines::same` meets its contract. The loop's invariant: the texts are the same where they are so from `i` on.
-use mathlib.Core.Path.{◌≡◌, refl, sym}
+use mathlib.Core.Path.{◌≡◌}
 use Prim.Native.Nat.{◌-◌, ◌≤◌}
-use native.Mathlib.Omega.{arith}
 use lib.ListN.{length, drop}
 use Rattle.history_lines.specs.Lines.{same}
-use Rattle.history_lines.proofs.LineShapes.{same_length, same_here, same_next, same_end}
 use Rattle.history_lines.proofs.lines.same.Given as goal
 
 abbrev pub invariant-loop-i : goal.invariant-loop-i

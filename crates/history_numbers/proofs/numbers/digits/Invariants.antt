@@ -1,9 +1,7 @@
 -- `history_numbers::numbers::digits` meets its contract. The loop's invariant: the bytes before `i` are digits and spell `value`.
-use Prim.Native.Nat.{◌-◌, ◌<◌, ◌^◌}
-use native.Mathlib.Omega.{arith}
+use Prim.Native.Nat.{◌-◌}
 use lib.ListN.{length}
-use borrow.Author.Rules.{rules}
-use Rattle.history_numbers.proofs.DigitWords.{Spelling, spelling_start, spelling_low, spelling_high, spelling_fits, spelling_next, spelling_end}
+use Rattle.history_numbers.proofs.DigitWords.{Spelling}
 use Rattle.history_numbers.proofs.numbers.digits.Given as goal
 
 abbrev pub invariant-loop-i : goal.invariant-loop-i

@@ -1,10 +1,8 @@
 -- `history_numbers::numbers::find` meets its contract. The loop's invariant: the first such byte is the first from `i` on.
 use mathlib.Core.Path.{◌≡◌}
 use Prim.Native.Nat.{◌+◌, ◌-◌, ◌≤◌}
-use native.Mathlib.Omega.{arith}
 use lib.ListN.{length, drop}
 use Rattle.history_numbers.specs.Cuts.{cut_at}
-use Rattle.history_numbers.proofs.Splitting.{cut_here, cut_next, cut_end}
 use Rattle.history_numbers.proofs.numbers.find.Given as goal
 
 abbrev pub invariant-loop-i : goal.invariant-loop-i

@@ -1,6 +1,5 @@
 -- `history_steps::applying::apply` meets its contract: what the line says is applied.
 use mathlib.Core.Path.{sym}
-use borrow.Author.Rules.{rules}
 use Rattle.history_steps.proofs.AppliedLines.{said_as, said_applied}
 use Rattle.history_steps.proofs.applying.apply.Goals as goal
 
