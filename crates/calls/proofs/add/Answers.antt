@@ -3,7 +3,6 @@ use mathlib.Core.Path.{◌≡◌, refl, sym, ◌∙◌}
 use mathlib.Core.Bool.{false}
 use Prim.Native.Nat.{◌+◌, ◌≤◌, ◌<◌}
 use native.Mathlib.Omega.{arith}
-use borrow.Author.Rules.{rules}
 use Rattle.slicing.specs.Devices.{device, present, insert, Within}
 use Rattle.slicing.specs.Limits.{device_outside}
 use Rattle.opened.specs.OpenPools.{devices_in, state_in}

@@ -1,14 +1,9 @@
 -- `largest_remainder::rank` meets its contract. The loop's invariant: those counted and the rank among the rows left are the rank.
-use mathlib.Core.Path.{◌≡◌}
 use mathlib.Core.Bool.{true, false}
-use mathlib.Core.Logic.{⊎_elim}
-use Prim.Native.Nat.{◌+◌, ◌-◌, ◌≤◌}
 use native.Mathlib.Nat.{zero-add, sub-zero}
 use native.Mathlib.Omega.{arith}
-use borrow.Author.Rules.{rules}
 use Rattle.slicing.proofs.Lex.{lex_more, lex_same, lex_not}
 use Rattle.slicing_core.specs.Rows.{at}
-use Rattle.largest_remainder.specs.Remainders.{rank as rank_of}
 use Rattle.largest_remainder.proofs.RemainderRows.{rank_next, rank_end}
 use Rattle.largest_remainder.proofs.rank.Goals as goal
 use Rattle.largest_remainder.proofs.rank.Goals.{then-own-other, else-own-other+then-own-other-2+then-ids-i, else-own-other+then-own-other-2+else-ids-i, else-own-other+else-own-other-2}

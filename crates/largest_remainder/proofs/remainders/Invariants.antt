@@ -1,12 +1,7 @@
 -- `largest_remainder::remainders` meets its contract. The loop's invariant: what the rounding of the rows passed leaves is stored.
-use mathlib.Core.Path.{refl}
 use Prim.Native.Nat.{◌*◌, ◌-◌, ◌%◌, ◌≤◌}
-use native.Mathlib.Omega.{arith}
-use borrow.Author.Rules.{rules}
-use Rattle.slicing.proofs.Limits.{product_size}
 use Rattle.slicing_core.specs.Rows.{at}
-use Rattle.slicing_core.proofs.FilledArrays.{FilledTo, filled_to_none, filled_to_put}
-use Rattle.shares.proofs.DeviceCapacities.{capacity_most}
+use Rattle.slicing_core.proofs.FilledArrays.{FilledTo}
 use Rattle.largest_remainder.proofs.remainders.Given as goal
 
 abbrev pub invariant-loop-i : goal.invariant-loop-i

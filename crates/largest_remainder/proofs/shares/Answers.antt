@@ -1,12 +1,8 @@
 -- `largest_remainder::shares` meets its contract. The loop's invariant: the shares of the rows passed are stored.
-use mathlib.Core.Logic.{⊎_elim}
-use Prim.Native.Nat.{◌-◌, ◌≤◌}
+use Prim.Native.Nat.{◌≤◌}
 use native.Mathlib.Omega.{arith}
 use borrow.Author.Rules.{rules}
-use Rattle.slicing.specs.Devices.{device}
-use Rattle.slicing.specs.LargestRemainder.{share}
-use Rattle.slicing_core.specs.Rows.{at, device_rows}
-use Rattle.slicing_core.proofs.FilledArrays.{FilledTo, filled_to_none, filled_to_put}
+use Rattle.slicing_core.proofs.FilledArrays.{filled_to_none, filled_to_put}
 use Rattle.shares.proofs.DeviceCapacities.{capacity_most, some_capacities}
 use Rattle.largest_remainder.proofs.RemainderRows.{floor_most, share_more, share_same, rows_shares}
 use Rattle.largest_remainder.proofs.shares.Goals as goal

@@ -2,7 +2,6 @@
 use mathlib.Core.Path.{sym}
 use mathlib.Core.Bool.{false≢true}
 use native.Mathlib.Omega.{arith}
-use borrow.Author.Rules.{rules}
 use Rattle.slicing_core.proofs.DeviceRows.{position_present, position_absent}
 use Rattle.opened.proofs.devices.find.Goals as goal
 

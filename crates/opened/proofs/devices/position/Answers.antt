@@ -1,7 +1,5 @@
 -- `opened::devices::position` meets its contract. The loop's invariant: the place lies from `low` to `high`.
-use Prim.Native.Nat.{◌-◌}
-use native.Mathlib.Omega.{arith}
-use Rattle.opened.proofs.HalvedIds.{Between, between_all, between_up, between_down, between_end}
+use Rattle.opened.proofs.HalvedIds.{between_all, between_up, between_down, between_end}
 use Rattle.opened.proofs.devices.position.Goals as goal
 
 pub loop-low-init : goal.loop-low-init

@@ -1,7 +1,6 @@
 -- `opened::devices::position` meets its contract. The loop's invariant: the place lies from `low` to `high`.
 use Prim.Native.Nat.{◌-◌}
-use native.Mathlib.Omega.{arith}
-use Rattle.opened.proofs.HalvedIds.{Between, between_all, between_up, between_down, between_end}
+use Rattle.opened.proofs.HalvedIds.{Between}
 use Rattle.opened.proofs.devices.position.Given as goal
 
 abbrev pub invariant-loop-low : goal.invariant-loop-low

@@ -1,9 +1,7 @@
 -- `plans::labels::lower` meets its contract. The loop's invariant: the runs passed are renamed, and the others stand as they did.
 use Prim.Native.Nat.{◌-◌}
-use mathlib.Core.Logic.{⊎_elim}
-use native.Mathlib.Omega.{arith}
 use Rattle.plans.specs.Labels.{lowered}
-use Rattle.plans.proofs.LabelSteps.{InPlace, lowered_to, lowered_above, renamed_end, in_place_none, in_place_on, in_place_put}
+use Rattle.plans.proofs.LabelSteps.{InPlace}
 use Rattle.plans.proofs.labels.lower.Given as goal
 
 abbrev pub invariant-loop-i : goal.invariant-loop-i

@@ -1,8 +1,5 @@
 -- `plans::labels::raise` meets its contract. The loop's invariant: the runs passed are renamed.
-use Prim.Native.Nat.{◌-◌}
-use native.Mathlib.Omega.{arith}
-use Rattle.plans.specs.Labels.{raised}
-use Rattle.plans.proofs.LabelSteps.{Renamed, renamed_none, renamed_put, renamed_end}
+use Rattle.plans.proofs.LabelSteps.{renamed_none, renamed_put, renamed_end}
 use Rattle.plans.proofs.labels.raise.Goals as goal
 
 pub loop-i-init : goal.loop-i-init

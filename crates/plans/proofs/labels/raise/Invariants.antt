@@ -1,8 +1,7 @@
 -- `plans::labels::raise` meets its contract. The loop's invariant: the runs passed are renamed.
 use Prim.Native.Nat.{◌-◌}
-use native.Mathlib.Omega.{arith}
 use Rattle.plans.specs.Labels.{raised}
-use Rattle.plans.proofs.LabelSteps.{Renamed, renamed_none, renamed_put, renamed_end}
+use Rattle.plans.proofs.LabelSteps.{Renamed}
 use Rattle.plans.proofs.labels.raise.Given as goal
 
 abbrev pub invariant-loop-i : goal.invariant-loop-i

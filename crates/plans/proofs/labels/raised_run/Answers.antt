@@ -1,5 +1,4 @@
 -- `plans::labels::raised_run` meets its contract: a row below 256 has room above it.
-use borrow.Author.Rules.{rules}
 use Rattle.plans.proofs.LabelSteps.{raised_below, raised_from}
 use Rattle.plans.proofs.labels.raised_run.Goals as goal
 

@@ -1,9 +1,7 @@
 -- `plans::labels::renew` meets its contract. The loop's invariant: the runs passed are copied, with their labels as they are.
 use mathlib.Core.Path.{◌∙◌}
-use Prim.Native.Nat.{◌-◌}
-use native.Mathlib.Omega.{arith}
 use Rattle.slicing.proofs.Runs.{relabel_same}
-use Rattle.plans.proofs.LabelSteps.{Renamed, named_same, renamed_none, renamed_put, renamed_end}
+use Rattle.plans.proofs.LabelSteps.{named_same, renamed_none, renamed_put, renamed_end}
 use Rattle.plans.proofs.labels.renew.Goals as goal
 
 pub loop-i-init : goal.loop-i-init

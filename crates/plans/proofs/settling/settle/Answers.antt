@@ -2,7 +2,6 @@
 -- rules' by other names, and the plan is that of the ending that they leave.
 use mathlib.Core.Path.{refl}
 use native.Mathlib.Omega.{arith}
-use borrow.Author.Rules.{rules}
 use Rattle.plans.proofs.Merging.{merged_few, merged_points, merged_has, merged_due, merged_balanced}
 use Rattle.plans.proofs.Planning.{planned_refused, planned_settled, settled_eight, settled_nine}
 use Rattle.plans.proofs.settling.settle.Goals as goal

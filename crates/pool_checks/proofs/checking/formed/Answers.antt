@@ -1,10 +1,8 @@
 -- `pool_checks::checking::formed` meets its contract: each part is decided by a call; that the unused places are 0 is asked.
 use mathlib.Core.Path.{◌≡◌, sym}
 use native.Mathlib.Omega.{arith}
-use borrow.Author.Rules.{rules}
 use Rattle.slicing.specs.Devices.{Rising}
 use Rattle.slicing_core.specs.Rows.{device_rows}
-use Rattle.pools.specs.declared.Pool.{Pool}
 use Rattle.pools.specs.Pools.{Limited, Formed}
 use Rattle.pool_checks.proofs.Deciding.{decides_eqb}
 use Rattle.pool_checks.proofs.SameRows.{rising_same}

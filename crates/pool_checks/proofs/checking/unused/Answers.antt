@@ -1,10 +1,6 @@
 -- `pool_checks::checking::unused` meets its contract. The loop's invariant: all from place `n` up to `i` are 0.
-use mathlib.Core.Path.{◌≡◌}
-use Prim.Native.Nat.{ℕ, ◌-◌, ◌≤◌, ◌<◌}
 use native.Mathlib.Omega.{arith}
-use lib.ListN.{length}
 use borrow.Author.Count.{below_more}
-use Rattle.slicing_core.specs.Rows.{at}
 use Rattle.pool_checks.proofs.checking.unused.Goals as goal
 
 pub loop-i-init : goal.loop-i-init

@@ -4,7 +4,6 @@ use mathlib.Core.Bool.{true≢false}
 use Prim.Native.Nat.{ℕ}
 use native.Mathlib.Omega.{arith}
 use lib.ListN.{length-replicate}
-use borrow.Author.Rules.{rules}
 use Rattle.pool_checks.proofs.DealtTables.{rows_labels, rows_points, dealt_rows, dealt_refused}
 use Rattle.pool_checks.proofs.tables.dealt.Goals as goal
 

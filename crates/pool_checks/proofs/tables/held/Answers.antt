@@ -1,8 +1,8 @@
 -- `pool_checks::tables::held` meets its contract. The loop's invariant: each row has its points of the first `i` runs.
-use Prim.Native.Nat.{◌-◌, ◌%◌, ◌<◌}
+use Prim.Native.Nat.{◌%◌, ◌<◌}
 use native.Mathlib.Omega.{arith}
 use Rattle.slicing_core.specs.Rows.{at}
-use Rattle.pool_checks.proofs.HeldRuns.{Summed, summed_none, summed_total, summed_more, summed_all}
+use Rattle.pool_checks.proofs.HeldRuns.{summed_none, summed_total, summed_more, summed_all}
 use Rattle.pool_checks.proofs.tables.held.Goals as goal
 
 pub loop-i-init : goal.loop-i-init

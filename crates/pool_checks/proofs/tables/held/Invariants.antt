@@ -1,8 +1,6 @@
 -- `pool_checks::tables::held` meets its contract. The loop's invariant: each row has its points of the first `i` runs.
-use Prim.Native.Nat.{◌-◌, ◌%◌, ◌<◌}
-use native.Mathlib.Omega.{arith}
-use Rattle.slicing_core.specs.Rows.{at}
-use Rattle.pool_checks.proofs.HeldRuns.{Summed, summed_none, summed_total, summed_more, summed_all}
+use Prim.Native.Nat.{◌-◌}
+use Rattle.pool_checks.proofs.HeldRuns.{Summed}
 use Rattle.pool_checks.proofs.tables.held.Given as goal
 
 abbrev pub invariant-loop-i : goal.invariant-loop-i

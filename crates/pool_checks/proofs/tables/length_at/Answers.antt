@@ -1,6 +1,5 @@
 -- `pool_checks::tables::length_at` meets its contract: its three returns are the three laws of LengthAt.
 use native.Mathlib.Omega.{arith}
-use borrow.Author.Rules.{rules}
 use Rattle.pool_checks.proofs.RowSteps.{length_same, length_next, length_last}
 use Rattle.pool_checks.proofs.tables.length_at.Goals as goal
 

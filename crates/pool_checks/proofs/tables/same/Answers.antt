@@ -1,9 +1,6 @@
 -- `pool_checks::tables::same` meets its contract. The loop's invariant: the first `i` of both are the same.
-use mathlib.Core.Path.{◌≡◌}
-use Prim.Native.Nat.{ℕ, ◌-◌, ◌≤◌, ◌<◌}
 use native.Mathlib.Omega.{arith}
 use borrow.Author.Count.{below_none, below_more}
-use Rattle.slicing_core.specs.Rows.{at}
 use Rattle.pool_checks.proofs.tables.same.Goals as goal
 
 pub loop-i-init : goal.loop-i-init

@@ -1,5 +1,4 @@
 -- `pools::closing::close` meets its contract: the arrays are those of the state, which is valid.
-use borrow.Author.Rules.{rules}
 use Rattle.opened.proofs.OpenPools.{open_few, open_ids, open_capacities, open_intervals, open_points, open_some}
 use Rattle.pools.proofs.ClosedPools.{pool_closed}
 use Rattle.pools.proofs.closing.close.Goals as goal

@@ -1,9 +1,6 @@
 -- `pools::closing::narrow` meets its contract. The loop's invariant: the first `i` of both columns, with zeros behind.
 use mathlib.Core.Path.{◌≡◌, refl}
-use Prim.Native.Nat.{◌-◌, ◌≤◌}
 use native.Mathlib.Omega.{arith}
-use lib.ListN.{take}
-use Rattle.pools.specs.Pools.{padded}
 use Rattle.pools.proofs.ClosedPools.{padded_take}
 use Rattle.pools.proofs.closing.narrow.Goals as goal
 

@@ -1,10 +1,8 @@
 -- `pools::closing::narrow` meets its contract. The loop's invariant: the first `i` of both columns, with zeros behind.
-use mathlib.Core.Path.{◌≡◌, refl}
+use mathlib.Core.Path.{◌≡◌}
 use Prim.Native.Nat.{◌-◌, ◌≤◌}
-use native.Mathlib.Omega.{arith}
 use lib.ListN.{take}
 use Rattle.pools.specs.Pools.{padded}
-use Rattle.pools.proofs.ClosedPools.{padded_take}
 use Rattle.pools.proofs.closing.narrow.Given as goal
 
 abbrev pub invariant-loop-i : goal.invariant-loop-i

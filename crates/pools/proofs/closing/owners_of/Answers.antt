@@ -1,11 +1,8 @@
 -- `pools::closing::owners_of` meets its contract. The loop's invariant: the owners of the first `i` runs, with zeros behind.
 use mathlib.Core.Path.{◌≡◌, refl}
-use Prim.Native.Nat.{◌-◌, ◌%◌, ◌≤◌, ◌<◌}
+use Prim.Native.Nat.{◌%◌, ◌<◌}
 use native.Mathlib.Omega.{arith}
-use Rattle.slicing.specs.Runs.{relabel}
 use Rattle.slicing_core.specs.Rows.{at}
-use Rattle.packed_runs.specs.Words.{runs}
-use Rattle.pools.specs.Pools.{padded, owners_of}
 use Rattle.pools.proofs.ClosedPools.{owners_of_run}
 use Rattle.pools.proofs.closing.owners_of.Goals as goal
 

@@ -1,13 +1,10 @@
 -- `pools::closing::starts_of` meets its contract. The loop's invariant: the starts of the first `i` runs, with zeros behind, and
 -- the point after them.
-use mathlib.Core.Path.{◌≡◌, refl}
-use Prim.Native.Nat.{◌+◌, ◌-◌, ◌/◌, ◌≤◌}
-use native.Mathlib.Omega.{arith}
+use mathlib.Core.Path.{◌≡◌}
+use Prim.Native.Nat.{◌-◌, ◌≤◌}
 use Rattle.slicing.specs.Runs.{total}
-use Rattle.slicing_core.specs.Rows.{at}
 use Rattle.packed_runs.specs.Words.{runs}
 use Rattle.pools.specs.Pools.{padded, starts_of}
-use Rattle.pools.proofs.ClosedPools.{total_runs_more, total_runs_le, starts_of_run}
 use Rattle.pools.proofs.closing.starts_of.Given as goal
 
 abbrev pub invariant-loop-i : goal.invariant-loop-i

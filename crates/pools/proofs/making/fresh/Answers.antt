@@ -1,5 +1,4 @@
 -- `pools::making::fresh` meets its contract: each return by the tests that led there.
-use borrow.Author.Rules.{rules}
 use borrow.Author.Tests.{lt-ltb, le-ltb}
 use Rattle.pools.proofs.FreshPools.{fresh_refused, fresh_made}
 use Rattle.pools.proofs.making.fresh.Goals as goal

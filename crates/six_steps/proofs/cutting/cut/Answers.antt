@@ -1,14 +1,10 @@
 -- `six_steps::cutting::cut` meets its contract. The loop's invariant: the pieces written and those of the walk from interval i on are all.
-use Prim.Native.Nat.{◌-◌, ◌%◌, ◌<◌}
-use mathlib.Core.Bool.{false}
+use Prim.Native.Nat.{◌%◌, ◌<◌}
 use native.Mathlib.Omega.{arith}
-use borrow.Author.Rules.{rules}
-use Rattle.slicing.specs.SixSteps.{end, walk}
 use Rattle.slicing_core.specs.Rows.{at}
 use Rattle.slicing_core.proofs.Cutting.{cut_to_gap}
-use Rattle.packed_runs.specs.Words.{runs}
 use Rattle.packed_runs.proofs.Words.{at_total}
-use Rattle.six_steps.proofs.CutSteps.{Cutting, cutting_none, cutting_small, cutting_room, cutting_pass, cutting_step, cutting_end}
+use Rattle.six_steps.proofs.CutSteps.{cutting_none, cutting_small, cutting_room, cutting_pass, cutting_step, cutting_end}
 use Rattle.six_steps.proofs.cutting.cut.Goals as goal
 
 pub loop-i-init : goal.loop-i-init

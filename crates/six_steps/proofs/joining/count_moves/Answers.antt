@@ -1,7 +1,6 @@
 -- `six_steps::joining::count_moves` meets its contract. The loop's invariant: the moves counted and those of the turns that are left are all.
-use Prim.Native.Nat.{◌-◌}
 use native.Mathlib.Omega.{arith}
-use Rattle.six_steps.proofs.CountSteps.{Counted, counted_none, counted_on, counted_more, counted_end}
+use Rattle.six_steps.proofs.CountSteps.{counted_none, counted_on, counted_more, counted_end}
 use Rattle.six_steps.proofs.joining.count_moves.Goals as goal
 use Rattle.six_steps.proofs.joining.count_moves.Goals.{then-turn, else-turn}
 

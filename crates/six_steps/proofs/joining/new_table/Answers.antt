@@ -1,8 +1,7 @@
 -- `six_steps::joining::new_table` meets its contract. The loop's invariant: the runs stored and the turns that are left have the new owners
 -- of all points.
-use Prim.Native.Nat.{◌-◌}
 use native.Mathlib.Omega.{arith}
-use Rattle.six_steps.proofs.JoinSteps.{Joined, joined_none, joined_push, joined_step, joined_end}
+use Rattle.six_steps.proofs.JoinSteps.{joined_none, joined_push, joined_step, joined_end}
 use Rattle.six_steps.proofs.joining.new_table.Goals as goal
 
 pub loop-i-init : goal.loop-i-init

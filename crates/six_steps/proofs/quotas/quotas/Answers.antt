@@ -1,9 +1,8 @@
 -- `six_steps::quotas::quotas` meets its contract. The loop's invariant: of the rows passed the arrays hold what they release and need.
-use Prim.Native.Nat.{◌-◌, ◌<◌, ◌^◌}
+use Prim.Native.Nat.{◌<◌, ◌^◌}
 use native.Mathlib.Omega.{arith}
-use borrow.Author.Rules.{rules}
 use Rattle.slicing_core.specs.Rows.{at}
-use Rattle.six_steps.proofs.QuotaSteps.{Quoted, quoted_none, quoted_step, quoted_end}
+use Rattle.six_steps.proofs.QuotaSteps.{quoted_none, quoted_step, quoted_end}
 use Rattle.six_steps.proofs.quotas.quotas.Goals as goal
 
 pub loop-i-init : goal.loop-i-init

@@ -1,9 +1,6 @@
 -- `six_steps::quotas::quotas` meets its contract. The loop's invariant: of the rows passed the arrays hold what they release and need.
-use Prim.Native.Nat.{◌-◌, ◌<◌, ◌^◌}
-use native.Mathlib.Omega.{arith}
-use borrow.Author.Rules.{rules}
-use Rattle.slicing_core.specs.Rows.{at}
-use Rattle.six_steps.proofs.QuotaSteps.{Quoted, quoted_none, quoted_step, quoted_end}
+use Prim.Native.Nat.{◌-◌}
+use Rattle.six_steps.proofs.QuotaSteps.{Quoted}
 use Rattle.six_steps.proofs.quotas.quotas.Given as goal
 
 abbrev pub invariant-loop-i : goal.invariant-loop-i

@@ -3,7 +3,6 @@ use mathlib.Core.Path.{ap, ◌∙◌}
 use native.Mathlib.Omega.{arith}
 use Prim.Native.Nat.{◌≤◌}
 use lib.ListN.{length}
-use borrow.Author.Rules.{rules}
 use Rattle.slicing.specs.SixSteps.{moves_from}
 use Rattle.packed_runs.specs.Words.{room}
 use Rattle.six_steps.proofs.Composition.{Pieced, Turned, pieced, pieced_enough, pieced_total, pieced_turned, turned_moved, turned_total, turned_owners, turned_table, turned_labels}

@@ -1,7 +1,6 @@
 -- `valid_pools::finding::find_in` meets its contract: a pool that is open is valid, and its state is the pool's.
 use mathlib.Core.Path.{◌≡◌, ap, ◌∙◌}
 use mathlib.Core.Bool.{true}
-use borrow.Author.Rules.{rules}
 use borrow.Author.Tests.{not-true, not-false}
 use Rattle.slicing.specs.Changes.{State}
 use Rattle.valid_pools.specs.Finding.{found_of, found, invalid}

@@ -1,6 +1,5 @@
 -- `valid_pools::opening::entered` meets its contract: `widen` copies the devices.
 use mathlib.Core.Path.{refl}
-use borrow.Author.Rules.{rules}
 use Rattle.valid_pools.proofs.opening.entered.Goals as goal
 
 pub returns : goal.returns

@@ -1,7 +1,6 @@
 -- `valid_pools::opening::open` meets its contract: a pool with a number in an unused place is not valid.
 use mathlib.Core.Path.{sym}
 use mathlib.Core.Bool.{true≢false}
-use borrow.Author.Rules.{rules}
 use Rattle.pools.proofs.ValidParts.{valid_cleared}
 use Rattle.valid_pools.proofs.opening.open.Goals as goal
 

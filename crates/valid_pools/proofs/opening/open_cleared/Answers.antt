@@ -5,7 +5,6 @@ use Prim.Native.Nat.{ℕ, ◌≤◌}
 use native.Mathlib.Omega.{arith}
 use lib.ListN.{length, length-replicate}
 use borrow.Author.Rules.{rules}
-use Rattle.pools.specs.declared.Pool.{Pool}
 use Rattle.pools.specs.Pools.{Formed}
 use Rattle.valid_pools.specs.Opening.{Entered}
 use Rattle.valid_pools.proofs.CheckedPools.{valid_formed, entered_opens, filled_opens, wide_rising, wide_ascending, wide_below}

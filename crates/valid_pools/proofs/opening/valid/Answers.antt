@@ -1,5 +1,4 @@
 -- `valid_pools::opening::valid` meets its contract: `open` decides it.
-use borrow.Author.Rules.{rules}
 use Rattle.valid_pools.proofs.opening.valid.Goals as goal
 
 pub open-checked-requires : goal.open-checked-requires

@@ -1,8 +1,6 @@
 -- `valid_pools::opening::widen` meets its contract. The loop's invariant: the first `i` numbers of both columns are copied.
-use Prim.Native.Nat.{◌-◌}
 use native.Mathlib.Omega.{arith}
-use borrow.Author.Rules.{rules}
-use Rattle.valid_pools.proofs.WidenedColumns.{Columns, columns_none, columns_more, widened_to_all}
+use Rattle.valid_pools.proofs.WidenedColumns.{columns_none, columns_more, widened_to_all}
 use Rattle.valid_pools.proofs.opening.widen.Goals as goal
 
 pub loop-i-init : goal.loop-i-init

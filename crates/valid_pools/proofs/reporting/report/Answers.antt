@@ -1,5 +1,4 @@
 -- `valid_pools::reporting::report` meets its contract.
-use borrow.Author.Rules.{rules}
 use Rattle.valid_pools.proofs.FoundDevices.{measured_of}
 use Rattle.valid_pools.proofs.ReportAnswers.{reported_of}
 use Rattle.valid_pools.proofs.reporting.report.Goals as goal

@@ -1,5 +1,4 @@
 -- `valid_pools::sharing::share` meets its contract: the answer is made of the numbers of the device found.
-use borrow.Author.Rules.{rules}
 use Rattle.valid_pools.proofs.ShareAnswers.{shared_refused, shared_told}
 use Rattle.valid_pools.proofs.sharing.share.Goals as goal
 
