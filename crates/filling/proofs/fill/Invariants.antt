@@ -1,9 +1,8 @@
 -- `filling::fill` meets its contract. The loop's invariant: the turns written and the filling of what is left are all the turns.
-use Prim.Native.Nat.{◌+◌, ◌-◌, ◌<◌}
-use native.Mathlib.Omega.{arith}
+use Prim.Native.Nat.{◌+◌, ◌-◌}
 use Rattle.slicing.specs.SixSteps.{fill}
 use Rattle.packed_runs.specs.Words.{runs, pieces_of}
-use Rattle.filling.proofs.FillSteps.{Filling, filling_none, filling_small, filling_push, filling_empty, filling_kept, filling_more, label_fits, filling_whole, filling_part, filling_end}
+use Rattle.filling.proofs.FillSteps.{Filling}
 use Rattle.filling.proofs.fill.Given as goal
 
 abbrev pub invariant-loop-i : goal.invariant-loop-i

@@ -13,10 +13,6 @@ returns-then-made-gt0 c =
     changed_unread c.args.image.now (change_of c.args.call) c.args.next.now c.args.list.now c.args.answer.now
     c.read_open-made.ensures.read c.if-answer-lt3.false c.if-made-gt0.true c.put3.ensures
 
-pub change-requires : goal.change-requires
-change-requires c =
-    ((c.read_open-made.ensures.opened (omega (arith, c.if-made-gt0.false))).0, c.if-answer-lt3.false)
-
 pub returns : goal.returns
 returns c =
     changed_read c.args.image.now (change_of c.args.call) c.args.next.now c.args.list.now c.args.answer.now

@@ -1,5 +1,4 @@
 -- `image_making::check` meets its contract.
-use borrow.Author.Rules.{rules}
 use Rattle.images.proofs.OnImages.{on_image_number}
 use Rattle.image_making.proofs.check.Goals as goal
 

@@ -1,5 +1,4 @@
 -- `image_making::fresh` meets its contract.
-use borrow.Author.Rules.{rules}
 use Rattle.image_making.proofs.StoredPools.{unanswered, fresh_valid_pool, fresh_stored}
 use Rattle.image_making.proofs.fresh.Goals as goal
 

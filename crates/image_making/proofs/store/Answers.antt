@@ -1,5 +1,4 @@
 -- `image_making::store` meets its contract.
-use borrow.Author.Rules.{rules}
 use Rattle.pools.specs.Pools.{state_of}
 use Rattle.image_making.proofs.StoredPools.{stored_whole, stored_none}
 use Rattle.image_making.proofs.store.Goals as goal

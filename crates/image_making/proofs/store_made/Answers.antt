@@ -1,5 +1,4 @@
 -- `image_making::store_made` meets its contract.
-use borrow.Author.Rules.{rules}
 use Rattle.image_making.proofs.StoredPools.{made_refused, made_accepted}
 use Rattle.image_making.proofs.store_made.Goals as goal
 

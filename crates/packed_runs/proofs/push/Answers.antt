@@ -1,7 +1,6 @@
 -- `packed_runs::push` meets its contract: its three returns are the three laws of Pushed.
 use Prim.Native.Nat.{◌-◌}
 use native.Mathlib.Omega.{arith}
-use borrow.Author.Rules.{rules}
 use Rattle.packed_runs.proofs.Words.{at_total}
 use Rattle.packed_runs.proofs.Pushing.{pushed_none, pushed_more, pushed_put}
 use Rattle.packed_runs.proofs.push.Goals as goal

@@ -1,5 +1,4 @@
 -- `packed_runs::put` meets its contract: its two returns are the two laws of Put.
-use borrow.Author.Rules.{rules}
 use Rattle.packed_runs.proofs.Pushing.{put_none, put_more}
 use Rattle.packed_runs.proofs.put.Goals as goal
 

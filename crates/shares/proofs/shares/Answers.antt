@@ -1,5 +1,4 @@
 -- `shares::shares` meets its contract: the rule in force is greatest divisors.
-use borrow.Author.Rules.{rules}
 use Rattle.slicing.specs.ShareRule.{shares}
 use Rattle.shares.proofs.shares.Goals as goal
 

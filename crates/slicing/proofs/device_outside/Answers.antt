@@ -1,6 +1,5 @@
 -- `slicing::device_outside` meets its contract: each return by the tests that led there, and the limits in code are those that are defined.
 use mathlib.Core.Path.{sym, ◌∙◌}
-use borrow.Author.Rules.{rules}
 use Rattle.slicing.proofs.device_outside.Goals as goal
 
 pub returns-then-outside : goal.returns-then-outside

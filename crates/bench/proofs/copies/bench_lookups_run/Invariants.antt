@@ -1,6 +1,5 @@
 -- `bench::copies::bench_lookups_run` is safe and ends. The loop's invariant: `block` is at most `count`.
 use Prim.Native.Nat.{◌≤◌, ◌-◌}
-use borrow.Author.Rules.{rules}
 use Rattle.bench.proofs.copies.bench_lookups_run.Given as goal
 
 abbrev pub invariant-loop-block : goal.invariant-loop-block

@@ -1,6 +1,5 @@
 -- `image_lookups::copying::copy_many` meets its contract. The loop's invariant: the rows and the counters of the first i blocks.
 use mathlib.Core.Path.{◌≡◌}
-use native.Mathlib.Omega.{arith}
 use lib.ListN.{length, get_or}
 use borrow.Author.Rules.{rules}
 use Rattle.pools.specs.Pools.{state_of}
@@ -11,18 +10,10 @@ pub loop-i-init : goal.loop-i-init
 loop-i-init c =
     many_none _ _ _ _ _
 
-pub slice_bounds-put_row-count : goal.slice_bounds-put_row-count
-slice_bounds-put_row-count c =
-    let l = c.loop-i in omega (arith, c.loop-i-test.true, c.requires.1, l.invariant.size)
-
 pub put_row-requires : goal.put_row-requires
 put_row-requires c =
     let l = c.loop-i in
     many_room (state_of c.args.pool) c.args.k c.args.blocks.now c.args.rows.now c.args.counters l.rows l.after l.i l.invariant c.loop-i-test.true c.requires.1
-
-pub loop-i-smaller : goal.loop-i-smaller
-loop-i-smaller c =
-    omega (arith, c.loop-i-test.true)
 
 pub loop-i-preserved : goal.loop-i-preserved
 loop-i-preserved c =
@@ -31,10 +22,6 @@ loop-i-preserved c =
     let eight : length r.owners ≡ 8 = search rules in
     many_more (state_of c.args.pool) c.args.k c.args.blocks.now c.args.rows.now c.args.counters l.rows l.after l.i l.invariant c.loop-i-test.true c.requires.1 r eight
     (answered_arrays c.args.pool c.requires.0 (get_or c.args.blocks.now l.i 0) c.args.k l.after r c.copies_in-answer.ensures) c.put_row.new.row c.put_row.auto.row c.put_row.ensures
-
-pub shape_of-rows : goal.shape_of-rows
-shape_of-rows c =
-    c.loop-i.invariant.size
 
 pub returns : goal.returns
 returns c =

@@ -1,12 +1,8 @@
 -- `images::reader::refused` meets its contract: the fresh pool is that of R = 1 and M = 1.
-use mathlib.Core.Path.{refl, ap}
+use mathlib.Core.Path.{ap}
 use Rattle.pools.specs.declared.PoolAnswer.{PoolAnswer}
 use Rattle.images.proofs.reader.refused.Goals as goal
 
 pub returns : goal.returns
 returns c =
     ap {B = PoolAnswer} (λ p. record { refusal = c.args.number; pool = p }) c.fresh-made.ensures.pool
-
-pub without_devices-requires : goal.without_devices-requires
-without_devices-requires c =
-    refl

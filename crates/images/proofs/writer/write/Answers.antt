@@ -6,10 +6,6 @@ pub returns-then-not-valid : goal.returns-then-not-valid
 returns-then-not-valid c =
     written_invalid c.args.pool (rw c.if-not-valid.true at c.valid.ensures) c.args.buffer.now
 
-pub store-requires : goal.store-requires
-store-requires c =
-    rw c.if-not-valid.false at c.valid.ensures
-
 pub returns : goal.returns
 returns c =
     written_valid _ (rw c.if-not-valid.false at c.valid.ensures) c.args.buffer.now _ _ (c.store.ensures.answer, c.store.ensures.buffer)

@@ -1,10 +1,9 @@
 -- `shares::capacities::sum` meets its contract. The loop's invariant: the sum so far and the capacities of the rows left are all
 -- capacities.
 use mathlib.Core.Path.{◌≡◌, ap}
-use Prim.Native.Nat.{◌+◌, ◌-◌, ◌≤◌}
+use Prim.Native.Nat.{◌+◌, ◌-◌}
 use native.Mathlib.Nat.{zero-add, sub-zero}
 use native.Mathlib.Omega.{arith}
-use borrow.Author.Rules.{rules}
 use Rattle.slicing.specs.Devices.{capacities as capacities_of}
 use Rattle.slicing_core.specs.Rows.{at, device_rows}
 use Rattle.slicing_core.proofs.Rows.{device_rows_step, device_rows_end}

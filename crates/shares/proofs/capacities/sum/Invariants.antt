@@ -1,14 +1,9 @@
 -- `shares::capacities::sum` meets its contract. The loop's invariant: the sum so far and the capacities of the rows left are all
 -- capacities.
-use mathlib.Core.Path.{◌≡◌, ap}
+use mathlib.Core.Path.{◌≡◌}
 use Prim.Native.Nat.{◌+◌, ◌-◌, ◌≤◌}
-use native.Mathlib.Nat.{zero-add, sub-zero}
-use native.Mathlib.Omega.{arith}
-use borrow.Author.Rules.{rules}
 use Rattle.slicing.specs.Devices.{capacities as capacities_of}
-use Rattle.slicing_core.specs.Rows.{at, device_rows}
-use Rattle.slicing_core.proofs.Rows.{device_rows_step, device_rows_end}
-use Rattle.shares.proofs.DeviceCapacities.{sum_most}
+use Rattle.slicing_core.specs.Rows.{device_rows}
 use Rattle.shares.proofs.capacities.sum.Given as goal
 
 abbrev pub invariant-loop-i : goal.invariant-loop-i

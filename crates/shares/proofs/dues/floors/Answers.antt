@@ -1,12 +1,11 @@
 -- `shares::dues::floors` meets its contract. The loop's invariant: the floors of the rows passed are stored, and what is left
 -- and all floors are the range and the floors of the rows left.
 use mathlib.Core.Path.{◌≡◌, ◌∙◌}
-use Prim.Native.Nat.{ℕ, ◌+◌, ◌*◌, ◌-◌, ◌/◌, ◌≤◌, ◌<◌}
+use Prim.Native.Nat.{◌+◌, ◌*◌, ◌-◌, ◌/◌, ◌≤◌}
 use native.Mathlib.Nat.{sub-zero}
 use native.Mathlib.Omega.{arith}
 use borrow.Author.Count.{below_more}
-use borrow.Author.Rules.{rules}
-use lib.ListN.{length, set, length-set}
+use lib.ListN.{set, length-set}
 use lib.Seq.{get_or-set_same, get_or-set_other}
 use Rattle.slicing.specs.Dues.{floors as floorsOf}
 use Rattle.slicing.proofs.Limits.{product_size}

@@ -1,18 +1,10 @@
 -- `shares::dues::floors` meets its contract. The loop's invariant: the floors of the rows passed are stored, and what is left
 -- and all floors are the range and the floors of the rows left.
-use mathlib.Core.Path.{◌≡◌, ◌∙◌}
+use mathlib.Core.Path.{◌≡◌}
 use Prim.Native.Nat.{ℕ, ◌+◌, ◌*◌, ◌-◌, ◌/◌, ◌≤◌, ◌<◌}
-use native.Mathlib.Nat.{sub-zero}
-use native.Mathlib.Omega.{arith}
-use borrow.Author.Count.{below_more}
-use borrow.Author.Rules.{rules}
-use lib.ListN.{length, set, length-set}
-use lib.Seq.{get_or-set_same, get_or-set_other}
+use lib.ListN.{length}
 use Rattle.slicing.specs.Dues.{floors as floorsOf}
-use Rattle.slicing.proofs.Limits.{product_size}
 use Rattle.slicing_core.specs.Rows.{at, device_rows}
-use Rattle.shares.proofs.DeviceCapacities.{capacity_most}
-use Rattle.shares.proofs.DeviceDues.{floors_step, floors_end, floors_most}
 use Rattle.shares.proofs.dues.floors.Given as goal
 
 abbrev pub invariant-loop-i : goal.invariant-loop-i

@@ -5,7 +5,6 @@ use borrow.Author.Rules.{rules}
 use lib.ListN.{set}
 use Rattle.slicing_core.specs.Rows.{at}
 use Rattle.shares.specs.GreatestDivisors.{Dealt}
-use Rattle.shares.specs.Tournament.{Tournament}
 use Rattle.shares.proofs.DeviceCapacities.{some_capacities}
 use Rattle.shares.proofs.GreatestDivisors.{dealt_start, dealt_give, dealt_ready, dealt_shares}
 use Rattle.shares.proofs.Matches.{tree_raise, root_row, root_ahead}

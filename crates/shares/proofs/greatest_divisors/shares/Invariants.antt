@@ -1,14 +1,6 @@
 -- `shares::greatest_divisors::shares` meets its contract. The loop's invariant: the points were dealt by the rule, and the tree is their tournament.
-use Prim.Native.Nat.{◌+◌, ◌-◌, ◌<◌}
-use native.Mathlib.Omega.{arith}
-use borrow.Author.Rules.{rules}
-use lib.ListN.{set}
-use Rattle.slicing_core.specs.Rows.{at}
 use Rattle.shares.specs.GreatestDivisors.{Dealt}
 use Rattle.shares.specs.Tournament.{Tournament}
-use Rattle.shares.proofs.DeviceCapacities.{some_capacities}
-use Rattle.shares.proofs.GreatestDivisors.{dealt_start, dealt_give, dealt_ready, dealt_shares}
-use Rattle.shares.proofs.Matches.{tree_raise, root_row, root_ahead}
 use Rattle.shares.proofs.greatest_divisors.shares.Given as goal
 
 abbrev pub invariant-loop-left : goal.invariant-loop-left

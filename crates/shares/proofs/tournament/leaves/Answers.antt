@@ -1,10 +1,9 @@
 -- `shares::tournament::leaves` meets its contract. The loop's invariant: the rows passed stand at their leaves.
 use mathlib.Core.Path.{◌≡◌, ◌∙◌}
-use Prim.Native.Nat.{ℕ, ◌+◌, ◌-◌, ◌≤◌, ◌<◌}
+use Prim.Native.Nat.{◌+◌}
 use native.Mathlib.Omega.{arith}
 use borrow.Author.Count.{below_more}
-use borrow.Author.Rules.{rules}
-use lib.ListN.{length, set, length-set}
+use lib.ListN.{set, length-set}
 use lib.Seq.{get_or-set_same, get_or-set_other}
 use Rattle.slicing_core.specs.Rows.{at}
 use Rattle.shares.proofs.tournament.leaves.Goals as goal

@@ -1,11 +1,7 @@
 -- `shares::tournament::leaves` meets its contract. The loop's invariant: the rows passed stand at their leaves.
-use mathlib.Core.Path.{◌≡◌, ◌∙◌}
+use mathlib.Core.Path.{◌≡◌}
 use Prim.Native.Nat.{ℕ, ◌+◌, ◌-◌, ◌≤◌, ◌<◌}
-use native.Mathlib.Omega.{arith}
-use borrow.Author.Count.{below_more}
-use borrow.Author.Rules.{rules}
-use lib.ListN.{length, set, length-set}
-use lib.Seq.{get_or-set_same, get_or-set_other}
+use lib.ListN.{length}
 use Rattle.slicing_core.specs.Rows.{at}
 use Rattle.shares.proofs.tournament.leaves.Given as goal
 

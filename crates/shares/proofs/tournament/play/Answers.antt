@@ -1,8 +1,6 @@
 -- `shares::tournament::play` meets its contract. The loop's invariant: the nodes up to k are open.
-use Prim.Native.Nat.{◌≤◌, ◌<◌, ◌-◌}
+use Prim.Native.Nat.{◌≤◌, ◌-◌}
 use native.Mathlib.Omega.{arith}
-use borrow.Author.Rules.{rules}
-use Rattle.shares.specs.Tournament.{Tree}
 use Rattle.shares.proofs.Matches.{tree_leaves, tree_play, tree_close, tree_small}
 use Rattle.shares.proofs.tournament.play.Goals as goal
 

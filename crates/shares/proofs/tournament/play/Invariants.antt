@@ -1,9 +1,6 @@
 -- `shares::tournament::play` meets its contract. The loop's invariant: the nodes up to k are open.
-use Prim.Native.Nat.{◌≤◌, ◌<◌, ◌-◌}
-use native.Mathlib.Omega.{arith}
-use borrow.Author.Rules.{rules}
+use Prim.Native.Nat.{◌≤◌, ◌<◌}
 use Rattle.shares.specs.Tournament.{Tree}
-use Rattle.shares.proofs.Matches.{tree_leaves, tree_play, tree_close, tree_small}
 use Rattle.shares.proofs.tournament.play.Given as goal
 
 abbrev pub invariant-loop-k : goal.invariant-loop-k

@@ -1,8 +1,7 @@
 -- `shares::tournament::replay` meets its contract. The loop's invariant: the nodes above node k are open.
-use Prim.Native.Nat.{◌/◌, ◌<◌}
+use Prim.Native.Nat.{◌/◌}
 use native.Mathlib.Omega.{arith}
-use borrow.Author.Rules.{rules}
-use Rattle.shares.specs.Tournament.{Above, Tree}
+use Rattle.shares.specs.Tournament.{Above}
 use Rattle.shares.proofs.Matches.{tree_play, tree_close, tree_small}
 use Rattle.shares.proofs.Nodes.{above_le, above_next}
 use Rattle.shares.proofs.tournament.replay.Goals as goal

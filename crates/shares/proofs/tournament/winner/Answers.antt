@@ -1,6 +1,5 @@
 -- `shares::tournament::winner` meets its contract.
 use native.Mathlib.Omega.{arith}
-use borrow.Author.Rules.{rules}
 use Rattle.shares.proofs.Matches.{product_most, won_first, won_second}
 use Rattle.shares.proofs.tournament.winner.Goals as goal
 

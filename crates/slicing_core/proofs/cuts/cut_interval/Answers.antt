@@ -1,7 +1,6 @@
 -- `slicing_core::cuts::cut_interval` meets its contract: each return is one of the five cases of `cut_by`.
 use mathlib.Core.Path.{refl}
 use mathlib.Core.Bool.{true, false}
-use borrow.Author.Rules.{rules}
 use borrow.Author.Tests.{eq-eqb, ne_eqb, le-leb, lt-leb}
 use Rattle.slicing_core.proofs.Cutting.{cut_to_tests}
 use Rattle.slicing_core.proofs.cuts.cut_interval.Goals as goal

@@ -1,9 +1,6 @@
 -- `slicing_core::devices::delete_row` meets its contract. The loop's invariant: of the first `i` rows, that at `p` less.
 use mathlib.Core.Path.{◌≡◌}
-use Prim.Native.Nat.{◌-◌, ◌≤◌, ◌<◌}
 use native.Mathlib.Omega.{arith}
-use borrow.Author.Rules.{rules}
-use Rattle.slicing_core.specs.Stages.{Deleted}
 use Rattle.slicing_core.proofs.Shifts.{deleted_none, deleted_more}
 use Rattle.slicing_core.proofs.devices.delete_row.Goals as goal
 

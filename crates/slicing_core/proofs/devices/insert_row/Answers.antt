@@ -1,9 +1,6 @@
 -- `slicing_core::devices::insert_row` meets its contract. The loop's invariant: of the first `i` rows, one more at `p`.
 use mathlib.Core.Path.{◌≡◌}
-use Prim.Native.Nat.{◌-◌, ◌≤◌}
 use native.Mathlib.Omega.{arith}
-use borrow.Author.Rules.{rules}
-use Rattle.slicing_core.specs.Stages.{Inserted}
 use Rattle.slicing_core.proofs.Shifts.{inserted_none, inserted_more}
 use Rattle.slicing_core.proofs.devices.insert_row.Goals as goal
 

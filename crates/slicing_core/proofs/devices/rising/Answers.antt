@@ -1,10 +1,9 @@
 -- `slicing_core::devices::rising` meets its contract. The loop's invariant: the rows left rise from `last` on exactly if all rows rise.
 use mathlib.Core.Path.{sym, ◌∙◌}
 use mathlib.Core.Bool.{true≢false}
-use Prim.Native.Nat.{◌+◌, ◌-◌, ◌≤◌}
+use Prim.Native.Nat.{◌+◌, ◌-◌}
 use native.Mathlib.Nat.{sub-zero}
 use native.Mathlib.Omega.{arith}
-use borrow.Author.Rules.{rules}
 use Rattle.slicing.specs.Devices.{device, Within, Rising}
 use Rattle.slicing.specs.Limits.{max_capacity}
 use Rattle.slicing.proofs.Limits.{outside_false, within_limits}

@@ -1,15 +1,7 @@
 -- `slicing_core::devices::rising` meets its contract. The loop's invariant: the rows left rise from `last` on exactly if all rows rise.
-use mathlib.Core.Path.{sym, ◌∙◌}
-use mathlib.Core.Bool.{true≢false}
-use Prim.Native.Nat.{◌+◌, ◌-◌, ◌≤◌}
-use native.Mathlib.Nat.{sub-zero}
-use native.Mathlib.Omega.{arith}
-use borrow.Author.Rules.{rules}
-use Rattle.slicing.specs.Devices.{device, Within, Rising}
-use Rattle.slicing.specs.Limits.{max_capacity}
-use Rattle.slicing.proofs.Limits.{outside_false, within_limits}
-use Rattle.slicing_core.specs.Rows.{at, device_rows}
-use Rattle.slicing_core.proofs.DeviceRows.{rising_row, row_rising, none_rising}
+use Prim.Native.Nat.{◌-◌, ◌≤◌}
+use Rattle.slicing.specs.Devices.{Rising}
+use Rattle.slicing_core.specs.Rows.{device_rows}
 use Rattle.slicing_core.proofs.devices.rising.Given as goal
 
 abbrev pub invariant-loop-i : goal.invariant-loop-i
