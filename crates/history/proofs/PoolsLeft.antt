@@ -5,18 +5,12 @@
 -- leaving_none, leaving_step
 use mathlib.Core.Path.{◌≡◌, sym, ap, ◌∙◌}
 use mathlib.Core.List.{List}
-use Prim.Native.Nat.{ℕ, ◌≤◌, ◌<◌}
-use lib.ListN.{length, drop, drop_of_length-le}
-use borrow.Author.Tests.{lt-ltb, le-ltb}
-use Rattle.pools.specs.Pools.{pool_of}
-use Rattle.pools.specs.declared.Pool.{Pool}
-use Rattle.slicing.specs.Changes.{fresh}
+use Prim.Native.Nat.{ℕ, ◌<◌}
+use lib.ListN.{length, drop}
 use Rattle.history_lines.specs.declared.lines.Part.{Part}
 use Rattle.history_lines.specs.Cuts.{part_at}
 use Rattle.history_steps.specs.Steps.{Reading, start, applied}
 use Rattle.history.specs.Histories.{lines_of, read_all}
-use Rattle.history.specs.Promises.{Left}
-use Rattle.history.specs.Replay.{max_text}
 use Rattle.history.proofs.ReplayParts.{read_all_part}
 
 module _ (text : List ℕ) where

@@ -17,7 +17,6 @@ use Rattle.pools.specs.declared.Pool.{Pool}
 use Rattle.pools.proofs.PoolLaws.{intervals_rows}
 use Rattle.pools.proofs.ValidParts.{valid_coalesced, valid_covers}
 use Rattle.slicing.specs.Replies.{replied, declined}
-use Rattle.slicing.specs.Runs.{intervals}
 use Rattle.slicing_core.specs.Rows.{interval_rows}
 use Rattle.slicing_core.proofs.Fronts.{front_put}
 use Rattle.history_numbers.specs.Text.{line_end}

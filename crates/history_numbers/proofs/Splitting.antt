@@ -6,7 +6,7 @@
 --
 -- cut_at: cut_at_below (at most the length)
 -- split: split_whole (no such byte), split_cut (at the first such byte), split_some (at least one part)
--- parts: part_front, part_back (a part of a slice up to a place, and one from a place on); cut_made, found_whole, cut_split
+-- parts: part_back (a part of a slice from a place on); cut_made, found_whole, cut_split
 use mathlib.Core.Path.{◌≡◌, refl, sym, ap, ◌∙◌}
 use mathlib.Core.Bool.{Bool, true, false}
 use mathlib.Core.List.{List, [], ◌∷◌}
@@ -15,7 +15,7 @@ use native.Mathlib.Omega.{arith}
 use native.Mathlib.Numerals.{add-one}
 use lib.Dec.{eqb}
 use lib.ListN.{length, take, drop, length-drop}
-use lib.Seq.{take_all, length-take-le}
+use lib.Seq.{take_all}
 use Rattle.history_numbers.specs.Cuts.{cut_at}
 use Rattle.history_numbers.specs.Text.{before, split}
 
@@ -62,9 +62,6 @@ split_some s (b ∷ bs) h = go (eqb b s) refl
     go false e = before_some b (split s bs) (rw e at h)
 
 -- ---- parts as the code makes them
-
-pub part_front : (n : ℕ) (xs : List ℕ) → n ≤ length xs → n ≡ length (take n xs)
-part_front n xs h = sym (length-take-le n xs h)
 
 pub part_back : (n : ℕ) (xs : List ℕ) → take (length xs - n) (drop n xs) ≡ drop n xs
 part_back n xs = take_all (length xs - n) (drop n xs) (omega (arith, length-drop n xs))

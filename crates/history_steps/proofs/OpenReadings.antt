@@ -4,9 +4,8 @@
 --
 -- Open: state_renewed, open_renewed (another array with the same runs)
 -- before the first line: start_ready, start_reading
--- of equal parts: ready_as, reading_as
 use mathlib.Core.Path.{◌≡◌, sym, ap, ◌∙◌, subst}
-use mathlib.Core.Bool.{Bool, false}
+use mathlib.Core.Bool.{false}
 use mathlib.Core.List.{List}
 use Prim.Native.Nat.{ℕ}
 use native.Mathlib.Omega.{arith}
@@ -58,10 +57,3 @@ module _ (o : Opened) (f : (table : List ℕ) → length table ≡ room → Open
 
   pub start_reading : reading_in false o zeros ≡ start
   start_reading = ap (λ (s : State). record { begun = false; pool = s }) (f zeros zeros_size).1
-
-module _ {o o' : Opened} {table table' : List ℕ} (q : o' ≡ o) (e : table' ≡ table) where
-  pub ready_as : {work work' next next' : List ℕ} → work' ≡ work → next' ≡ next → Ready o table work next → Ready o' table' work' next'
-  ready_as f g w = rw (q, e, f, g) w
-
-  pub reading_as : {b b' : Bool} → b' ≡ b → reading_in b' o' table' ≡ reading_in b o table
-  reading_as p = rw (p, q, e)

@@ -1,9 +1,9 @@
 -- `history::transcripts::replay` meets its contract: each line is printed behind those before it, then the table.
-use mathlib.Core.Path.{sym, ap, ◌∙◌}
+use mathlib.Core.Path.{sym, ap}
 use Rattle.history_lines.proofs.TextParts.{part_fits}
 use Rattle.history_steps.specs.Steps.{Result}
 use Rattle.history_steps.proofs.AdvancedLines.{line_refused}
-use Rattle.history_steps.proofs.OpenReadings.{start_ready, start_reading, ready_as, reading_as}
+use Rattle.history_steps.proofs.OpenReadings.{start_ready, start_reading}
 use Rattle.history.proofs.Replaying.{gives_refused, gives_advanced, replaying_none, replaying_room, replaying_step, replaying_table, replaying_end, closed_valid}
 use Rattle.history.proofs.transcripts.replay.Goals as goal
 use Rattle.history.proofs.transcripts.replay.Goals.{in-Refused, in_default}
@@ -35,21 +35,18 @@ pub loop-from-preserved : goal.loop-from-preserved
 loop-from-preserved c =
     let inv = c.loop-from.invariant in
     elim c.match-said.branch [
-      | in-Refused w ↦ (
+      | in-Refused w ↦ rw (w.pool-is, w.table-is, w.begun-is, w.work-is, w.next-is, w.place-is, w.out-is) (
         replaying_step c.args.text.now c.args.out.now inv.0 inv.1.opened.valid c.requires.0 c.requires.1 c.part_at-part.result c.part_at-part.ensures c.loop-from-test.true
-            w.wide32.result 0 0 (gives_refused _ w.in-Refused.is w.wide32.ensures.0) w.wide32.ensures.1 _ c.match-said.place c.match-said.out
-            (reading_as w.pool-is w.table-is w.begun-is ∙ sym (ap (λ (r : Result). r.after) (line_refused _ _ w.in-Refused.is)))
-            (w.place-is ∙ w.put_line-place.ensures.place) (w.out-is ∙ w.put_line-place.ensures.line),
-        ready_as w.pool-is w.table-is w.work-is w.next-is inv.1,
+            w.wide32.result 0 0 (gives_refused _ w.in-Refused.is w.wide32.ensures.0) w.wide32.ensures.1 _ _ _
+            (sym (ap (λ (r : Result). r.after) (line_refused _ _ w.in-Refused.is))) w.put_line-place.ensures.place w.put_line-place.ensures.line,
+        inv.1,
       )
-      | in_default w ↦ (
+      | in_default w ↦ rw (w.pool-is, w.table-is, w.begun-is, w.work-is, w.next-is, w.place-is, w.out-is) (
         replaying_step c.args.text.now c.args.out.now inv.0 inv.1.opened.valid c.requires.0 c.requires.1 c.part_at-part.result c.part_at-part.ensures c.loop-from-test.true
             w.wide32-in_default.result w.advance-step.result.moved w.advance-step.result.count
-            (gives_advanced w.advance-step.ensures.advanced w.wide32-in_default.ensures.0) w.wide32-in_default.ensures.1 _ c.match-said.place c.match-said.out
-            (reading_as w.pool-is w.table-is w.begun-is ∙ w.advance-step.ensures.advanced.after)
-            (w.place-is ∙ w.put_line-place-in_default.ensures.place) (w.out-is ∙ w.put_line-place-in_default.ensures.line),
-        ready_as w.pool-is w.table-is w.work-is w.next-is
-            (record { opened = w.advance-step.ensures.advanced.opened; work_size = w.advance-step.ensures.work_len.0; next_size = w.advance-step.ensures.work_len.1 }),
+            (gives_advanced w.advance-step.ensures.advanced w.wide32-in_default.ensures.0) w.wide32-in_default.ensures.1 _ _ _
+            w.advance-step.ensures.advanced.after w.put_line-place-in_default.ensures.place w.put_line-place-in_default.ensures.line,
+        record { opened = w.advance-step.ensures.advanced.opened; work_size = w.advance-step.ensures.work_len.0; next_size = w.advance-step.ensures.work_len.1 },
       )
     ]
 
