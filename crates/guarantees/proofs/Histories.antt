@@ -123,8 +123,8 @@ asked_early h f b resizes = rw b
 module _ (h : History) (xs : List ℕ) (r : LineResult) (k : Applied h xs r) where
   -- the same whether the history's pool is valid or not
   same_line : Decided (ValidPool h.pool) → (g : LineResult) → ((f : Change → LineResult) → applied_line h f (line_in xs) ≡ g) → r ≡ g
-  same_line (within v) g e = k.valid v ∙ e _
-  same_line (without v) g e = k.invalid v ∙ e _
+  same_line (within v) g e = k.valid v ∙ e (λ x. result_line (change (state_of h.pool) places x))
+  same_line (without v) g e = k.invalid v ∙ e (λ x. refused h 2)
 
   module _ (v : Decided (ValidPool h.pool)) where
     -- a line of no shape, or with a number outside its limits
@@ -150,11 +150,11 @@ module _ (h : History) (xs : List ℕ) (r : LineResult) (k : Applied h xs r) whe
   module _ (b : h.begun ≡ true) (c : Change) (a : Asks (line_in xs) c) where
     -- a change of a pool that is not valid
     pub apply_invalid : (ValidPool h.pool → ⊥) → Unchanged 2 h r
-    apply_invalid v = unchanged 2 h r (k.invalid v ∙ asked_late h _ b a)
+    apply_invalid v = unchanged 2 h r (k.invalid v ∙ asked_late h (λ x. refused h 2) b a)
 
     module _ (v : ValidPool h.pool) where
       done : r ≡ result_line (change (state_of h.pool) places c)
-      done = k.valid v ∙ asked_late h _ b a
+      done = k.valid v ∙ asked_late h (λ x. result_line (change (state_of h.pool) places x)) b a
 
       pub apply_stops : (n : ℕ) → Stops (state_of h.pool) places c n → Unchanged n h r
       apply_stops n s =
