@@ -1,6 +1,7 @@
 -- `history_steps::advancing::change` meets its contract: where the plan of the change is accepted, the table is renewed.
 use mathlib.Core.Logic.{inl, inr}
 use mathlib.Core.Path.{refl}
+use borrow.Author.Rules.{rules}
 use Rattle.history_steps.proofs.AdvancedLines.{places_length, planned_few, advanced_planned}
 use Rattle.history_steps.proofs.advancing.change.Goals as goal
 
@@ -13,10 +14,10 @@ pub returns-then-made-eq0-clause-advanced : goal.returns-then-made-eq0-clause-ad
 returns-then-made-eq0-clause-advanced c =
     let a = c.args in
     advanced_planned a.pool a.table.now c.requires.0 a.call _ c.plan-made.result _ _ c.plan-made.ensures.planned places_length c.renew.new.table a.begun
-    c.if-not-begun.false (inl (c.if-made-eq0.true, c.renew.ensures.q_after, c.renew.ensures.table_len))
+    (search rules) (inl (c.if-made-eq0.true, c.renew.ensures.q_after, c.renew.ensures.table_len))
 
 pub returns-else-made-eq0-clause-advanced : goal.returns-else-made-eq0-clause-advanced
 returns-else-made-eq0-clause-advanced c =
     let a = c.args in
     advanced_planned a.pool a.table.now c.requires.0 a.call _ c.plan-made.result _ _ c.plan-made.ensures.planned places_length a.table.now a.begun
-    c.if-not-begun.false (inr (c.if-made-eq0.false, refl))
+    (search rules) (inr (c.if-made-eq0.false, refl))
