@@ -65,10 +65,13 @@ pub fn loaded(word: &[u8], id: usize, value: usize, ids: &mut [u16], values: &mu
 }
 
 // How many rows are left without the rows of zeros at the end.
-fn used(ids: &[u16], values: &[u32]) -> usize {
+fn used(ids: &[u16], values: &[u32]) -> usize
+    ensures { result ≤ length ids.now }
+{
     let mut found = 0;
-    for (i, (id, value)) in ids.iter().zip(values).enumerate() {
-        if *id != 0 || *value != 0 {
+    for (i, id) in ids.iter().enumerate() {
+        let value = if i < values.len() { values[i] } else { 0 };
+        if *id != 0 || value != 0 {
             found = i + 1;
         }
     }
