@@ -75,7 +75,8 @@ fn step<R: Read>(
     line: &mut [u8],
 ) -> io::Result<Input>
     requires { input.count ≤ length line.old }
-    ensures { IfOk result (λ next. next.count ≤ length line.old) }
+    ensures counted { IfOk result (λ next. next.count ≤ length line.old) }
+    ensures line_len { length line.new ≡ length line.old }
 {
     let mut next = filled(reader, input, &mut *piece)?;
     let at = next.at;
@@ -90,14 +91,15 @@ fn step<R: Read>(
 
 // Reads a line. Its first bytes, as many as the answer counts, stand at the front of `line`. A line has no
 // limit that could be reached; the count of steps is there for the proof of the end. An error where a read
-// fails.
+// fails: the line then keeps its length, and may hold bytes of what was read.
 pub fn read_line<R: Read>(
     reader: &mut R,
     input: Input,
     piece: &mut [u8; PIECE],
     line: &mut [u8],
 ) -> io::Result<Input>
-    ensures { IfOk result (λ next. next.count ≤ length line.old) }
+    ensures counted { IfOk result (λ next. next.count ≤ length line.old) }
+    ensures line_len { length line.new ≡ length line.old }
 {
     let mut next = input;
     next.count = 0;
