@@ -1,15 +1,14 @@
 -- What the offered calls on whole history texts promise.
 --
---   transcript_reply r     document 01's number and value of the answer r of a transcript
 --   Transcribed xs ..     the answer of a transcript of the text xs, and the buffer afterwards
 --   Left xs r             r answers the call for the pool that the text xs leaves
-use Rattle.std.specs.Prelude.{◌≡◌, cond, List, ◌++◌, ℕ, ltb, length, drop}
+use Rattle.std.specs.Prelude.{◌≡◌, cond, List, ◌++◌, ℕ, Result, Ok, Err, ltb, length, drop}
+use Rattle.refusals.specs.Replies.{reply, replied, declined}
+use Rattle.refusals.specs.declared.Refusal.{Refusal}
+use Rattle.refusals.specs.declared.Refusal.TheVariants.{ShortBuffer}
 use Rattle.pools.specs.Pools.{pool_of}
 use Rattle.pools.specs.declared.PoolAnswer.{PoolAnswer}
 use Rattle.slicing.specs.Changes.{fresh}
-use Rattle.slicing.specs.Replies.{Reply, replied, declined}
-use Rattle.history.specs.declared.transcripts.TranscriptAnswer.{TranscriptAnswer}
-use Rattle.history.specs.declared.transcripts.TranscriptAnswer.TheVariants as Answer
 use Rattle.history.specs.Histories.{pool_after}
 use Rattle.history.specs.Replay.{max_text, transcript}
 
@@ -17,14 +16,10 @@ use Rattle.history.specs.Replay.{max_text, transcript}
 abbrev pub room : ℕ
 room = 3145728
 
-abbrev pub transcript_reply : TranscriptAnswer → Reply
-transcript_reply (Answer.Printed n) = replied n
-transcript_reply (Answer.Refused n) = declined n
-
 -- a buffer without that room is refused with 17, and stays
-pub record Transcribed (xs before : List ℕ) (r : TranscriptAnswer) (after : List ℕ) : Type 0 where
-  pub answer : r ≡ cond (ltb (length before) room) (Answer.Refused 17) (Answer.Printed (length (transcript xs)))
-  pub reply : transcript_reply r ≡ cond (ltb (length before) room) (declined 17) (replied (length (transcript xs)))
+pub record Transcribed (xs before : List ℕ) (r : Result ℕ Refusal) (after : List ℕ) : Type 0 where
+  pub answer : r ≡ cond (ltb (length before) room) (Err ShortBuffer) (Ok (length (transcript xs)))
+  pub reply : reply r ≡ cond (ltb (length before) room) (declined 17) (replied (length (transcript xs)))
   pub buffer : after ≡ cond (ltb (length before) room) before (transcript xs ++ drop (length (transcript xs)) before)
 
 -- the pool that a text leaves; more than 65,536 bytes are refused with 2, and a refused call that makes a pool gives a fresh one with R = 1 and M = 1

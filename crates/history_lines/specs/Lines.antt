@@ -4,12 +4,13 @@
 --   line_of ws        what a line of the words ws says
 --   line_in xs        what the line xs says
 --   LineRead xs r    r answers the call for what the line xs says
-use Rattle.std.specs.Prelude.{◌≡◌, Bool, true, false, cond, ◌&&◌, ◌||◌, List, [], ◌∷◌, ℕ, eqb}
+use Rattle.std.specs.Prelude.{◌≡◌, Bool, true, false, cond, ◌&&◌, ◌||◌, List, [], ◌∷◌, ℕ, Option, None, Some, Result, Ok, Err, eqb}
+use Rattle.refusals.specs.Replies.{number}
+use Rattle.refusals.specs.declared.Refusal.{Refusal}
+use Rattle.refusals.specs.declared.Refusal.TheVariants.{Shapeless, Outside}
 use Rattle.slicing.specs.Limits.{max_range, max_limit, max_id, outside, device_outside}
-use Rattle.history_lines.specs.declared.lines.LineAnswer.{LineAnswer}
-use Rattle.history_lines.specs.declared.lines.LineAnswer.TheVariants.{Range, Add, Remove, Resize, Refused}
-use Rattle.history_numbers.specs.declared.numbers.Parsed.{Parsed}
-use Rattle.history_numbers.specs.declared.numbers.Parsed.TheVariants.{Number, Shapeless}
+use Rattle.history_lines.specs.declared.lines.Line.{Line}
+use Rattle.history_lines.specs.declared.lines.Line.TheVariants.{Range, Add, Remove, Resize}
 use Rattle.history_numbers.specs.Text.{space, split, number_in, capacity_in}
 
 -- ---- replies
@@ -20,12 +21,12 @@ pub record LineReply : Type 0 where
   pub number : ℕ
   pub values : List ℕ
 
-abbrev pub line_reply : LineAnswer → LineReply
-line_reply (Range R M) = record { number = 0; values = R ∷ M ∷ [] }
-line_reply (Add d c) = record { number = 0; values = d ∷ c ∷ [] }
-line_reply (Remove d) = record { number = 0; values = d ∷ [] }
-line_reply (Resize d c) = record { number = 0; values = d ∷ c ∷ [] }
-line_reply (Refused n) = record { number = n; values = [] }
+abbrev pub line_reply : Result Line Refusal → LineReply
+line_reply (Ok (Range R M)) = record { number = 0; values = R ∷ M ∷ [] }
+line_reply (Ok (Add d c)) = record { number = 0; values = d ∷ c ∷ [] }
+line_reply (Ok (Remove d)) = record { number = 0; values = d ∷ [] }
+line_reply (Ok (Resize d c)) = record { number = 0; values = d ∷ c ∷ [] }
+line_reply (Err e) = record { number = number e; values = [] }
 
 -- ---- the four shapes
 
@@ -48,37 +49,37 @@ same (x ∷ xs) [] = false
 same (x ∷ xs) (y ∷ ys) = let r = same xs ys in eqb x y && r
 
 -- '1: not one of the four shapes', then '2: a number outside its limits': two words whose shapes and limits are judged together
-abbrev pub pair_line : (ℕ → ℕ → LineAnswer) → (ℕ → ℕ → Bool) → Parsed → Parsed → LineAnswer
-pair_line f out Shapeless q = Refused 1
-pair_line f out (Number a) Shapeless = Refused 1
-pair_line f out (Number a) (Number b) = cond (out a b) (Refused 2) (f a b)
+abbrev pub pair_line : (ℕ → ℕ → Line) → (ℕ → ℕ → Bool) → Option ℕ → Option ℕ → Result Line Refusal
+pair_line f out None q = Err Shapeless
+pair_line f out (Some a) None = Err Shapeless
+pair_line f out (Some a) (Some b) = cond (out a b) (Err Outside) (Ok (f a b))
 
-abbrev pub remove_line : Parsed → LineAnswer
-remove_line Shapeless = Refused 1
-remove_line (Number d) = cond (outside max_id d) (Refused 2) (Remove d)
+abbrev pub remove_line : Option ℕ → Result Line Refusal
+remove_line None = Err Shapeless
+remove_line (Some d) = cond (outside max_id d) (Err Outside) (Ok (Remove d))
 
 -- a range line's numbers, one of them outside its limits
 abbrev pub range_outside : ℕ → ℕ → Bool
 range_outside R M = outside max_range R || outside max_limit M
 
 -- 'They are `range R M`, `add ID CAPACITY`, `remove ID`, `resize ID CAPACITY`: lower case, one space between words, nothing else.'
-abbrev pub three_words : List ℕ → List ℕ → List ℕ → LineAnswer
+abbrev pub three_words : List ℕ → List ℕ → List ℕ → Result Line Refusal
 three_words k a b =
     cond (same k range_word) (pair_line Range range_outside (number_in a) (number_in b))
     (cond (same k add_word) (pair_line Add device_outside (number_in a) (capacity_in b))
     (cond (same k resize_word) (pair_line Resize device_outside (number_in a) (capacity_in b))
-    (Refused 1)))
+    (Err Shapeless)))
 
-abbrev pub line_of : List (List ℕ) → LineAnswer
-line_of [] = Refused 1
-line_of (k ∷ []) = Refused 1
-line_of (k ∷ a ∷ []) = cond (same k remove_word) (remove_line (number_in a)) (Refused 1)
+abbrev pub line_of : List (List ℕ) → Result Line Refusal
+line_of [] = Err Shapeless
+line_of (k ∷ []) = Err Shapeless
+line_of (k ∷ a ∷ []) = cond (same k remove_word) (remove_line (number_in a)) (Err Shapeless)
 line_of (k ∷ a ∷ b ∷ []) = three_words k a b
-line_of (k ∷ a ∷ b ∷ c ∷ ws) = Refused 1
+line_of (k ∷ a ∷ b ∷ c ∷ ws) = Err Shapeless
 
-unfoldable pub line_in : List ℕ → LineAnswer
+unfoldable pub line_in : List ℕ → Result Line Refusal
 line_in xs = line_of (split space xs)
 
-pub record LineRead (xs : List ℕ) (r : LineAnswer) : Type 0 where
+pub record LineRead (xs : List ℕ) (r : Result Line Refusal) : Type 0 where
   pub answer : r ≡ line_in xs
   pub reply : line_reply r ≡ line_reply (line_in xs)

@@ -5,10 +5,8 @@
 --   spelled n w         the number that n and the digits w behind it spell
 --   number_in w          the number that a word is, or that it is none
 --   capacity_in w        a capacity in thousandths of a TB, or that it is none
-use Rattle.std.specs.Prelude.{Bool, true, false, cond, ◌&&◌, not, List, [], ◌∷◌, ℕ, ◌+◌, ◌*◌, ◌-◌, ◌^◌, eqb, leb, length}
+use Rattle.std.specs.Prelude.{Bool, true, false, cond, ◌&&◌, not, List, [], ◌∷◌, ℕ, ◌+◌, ◌*◌, ◌-◌, ◌^◌, Option, None, Some, eqb, leb, length}
 use Rattle.slicing.specs.Limits.{outside}
-use Rattle.history_numbers.specs.declared.numbers.Parsed.{Parsed}
-use Rattle.history_numbers.specs.declared.numbers.Parsed.TheVariants.{Number, Shapeless}
 
 abbrev pub line_end : ℕ
 line_end = 0x0a
@@ -56,8 +54,8 @@ leading_zero (b ∷ c ∷ bs) = eqb b zero_digit
 abbrev pub is_number : List ℕ → Bool
 is_number w = not (outside 10 (length w)) && not (leading_zero w) && all_digits w
 
-unfoldable pub number_in : List ℕ → Parsed
-number_in w = cond (is_number w) (Number (spelled 0 w)) Shapeless
+unfoldable pub number_in : List ℕ → Option ℕ
+number_in w = cond (is_number w) (Some (spelled 0 w)) None
 
 -- ---- capacities
 
@@ -70,11 +68,11 @@ abbrev pub fraction_of : List ℕ → ℕ
 fraction_of f = spelled 0 f * 10 ^ (3 - length f)
 
 -- 'A capacity is a number in TB', in thousandths
-abbrev pub thousandths : List (List ℕ) → Parsed
-thousandths [] = Shapeless
-thousandths (w ∷ []) = cond (is_number w) (Number (1000 * spelled 0 w)) Shapeless
-thousandths (w ∷ f ∷ []) = cond (is_number w && is_fraction f) (Number (1000 * spelled 0 w + fraction_of f)) Shapeless
-thousandths (w ∷ f ∷ g ∷ ps) = Shapeless
+abbrev pub thousandths : List (List ℕ) → Option ℕ
+thousandths [] = None
+thousandths (w ∷ []) = cond (is_number w) (Some (1000 * spelled 0 w)) None
+thousandths (w ∷ f ∷ []) = cond (is_number w && is_fraction f) (Some (1000 * spelled 0 w + fraction_of f)) None
+thousandths (w ∷ f ∷ g ∷ ps) = None
 
-unfoldable pub capacity_in : List ℕ → Parsed
+unfoldable pub capacity_in : List ℕ → Option ℕ
 capacity_in w = thousandths (split point w)

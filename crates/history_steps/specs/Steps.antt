@@ -3,11 +3,14 @@
 --   Reading             whether a range line was accepted, and the pool
 --   Result              what a line gives: the refusal number or 0, the moved points, the number of moves, the reading afterwards
 --   applied h l         the result of a line
-use Rattle.std.specs.Prelude.{Bool, true, false, cond, List, ℕ, replicate}
+use Rattle.std.specs.Prelude.{Bool, true, false, cond, List, ℕ, Ok, Err, replicate}
+use Rattle.std.specs.Prelude as Prelude
+use Rattle.refusals.specs.Replies.{number}
+use Rattle.refusals.specs.declared.Refusal.{Refusal}
 use Rattle.slicing.specs.Changes.{State, fresh, Change, add, remove, resize, Outcome, change}
 use Rattle.slicing.specs.SixSteps.{Move, move}
-use Rattle.history_lines.specs.declared.lines.LineAnswer.{LineAnswer}
-use Rattle.history_lines.specs.declared.lines.LineAnswer.TheVariants.{Range, Add, Remove, Resize, Refused}
+use Rattle.history_lines.specs.declared.lines.Line.{Line}
+use Rattle.history_lines.specs.declared.lines.Line.TheVariants.{Range, Add, Remove, Resize}
 
 pub record Reading : Type 0 where
   pub begun : Bool
@@ -39,9 +42,9 @@ abbrev pub changed : Reading → Change → Result
 changed h k = cond h.begun (result_of (change h.pool places k)) (refusal h 3)
 
 -- '3: a range line after an accepted one'
-abbrev pub applied : Reading → LineAnswer → Result
-applied h (Refused n) = refusal h n
-applied h (Range R M) = cond h.begun (refusal h 3) (record { number = 0; moved = 0; count = 0; after = record { begun = true; pool = fresh R M } })
-applied h (Add d c) = changed h (add d c)
-applied h (Remove d) = changed h (remove d)
-applied h (Resize d c) = changed h (resize d c)
+abbrev pub applied : Reading → Prelude.Result Line Refusal → Result
+applied h (Err e) = refusal h (number e)
+applied h (Ok (Range R M)) = cond h.begun (refusal h 3) (record { number = 0; moved = 0; count = 0; after = record { begun = true; pool = fresh R M } })
+applied h (Ok (Add d c)) = changed h (add d c)
+applied h (Ok (Remove d)) = changed h (remove d)
+applied h (Ok (Resize d c)) = changed h (resize d c)

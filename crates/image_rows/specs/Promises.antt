@@ -4,22 +4,23 @@
 --   device_numbers s     id, capacity and share of each device
 --   interval_numbers s   start, length and owner of each interval
 --   Listed f xs a r     r answers the call for the rows f of the image's state
+--   found_reply r       document 01's number, and the numbers of the device that was found
 --   FoundOn xs d r      r is the device d of the image's pool, or the refusal
 --   Shared xs d a r     r answers the call for the share of d
 --   ReportLeft          the refusal number or 0, the places of the answer and the difference afterwards
 --   Reported xs d a x r r answers the call for the report on d, x being the difference before
-use Rattle.std.specs.Prelude.{◌≡◌, cond, List, [], ◌∷◌, ◌++◌, ℕ, ◌≤◌, ◌<◌, ltb, ℤ, length, drop}
+use Rattle.std.specs.Prelude.{◌≡◌, cond, List, [], ◌∷◌, ◌++◌, ℕ, ◌≤◌, ◌<◌, Result, Ok, Err, ltb, ℤ, length, drop}
+use Rattle.refusals.specs.Replies.{number}
+use Rattle.refusals.specs.declared.Refusal.{Refusal}
 use Rattle.slicing.specs.Changes.{State}
 use Rattle.slicing.specs.Devices.{Device}
 use Rattle.slicing.specs.Reports.{Report, no_report, report}
 use Rattle.slicing.specs.Runs.{Interval, intervals}
 use Rattle.slicing.specs.ShareRule.{share_of}
 use Rattle.answers.specs.Answers.{Answer, zeros}
-use Rattle.valid_pools.specs.Finding.{not_found, found_of}
+use Rattle.valid_pools.specs.Finding.{found_of}
 use Rattle.valid_pools.specs.Promises.{share_answer}
 use Rattle.valid_pools.specs.declared.finding.Found.{Found}
-use Rattle.valid_pools.specs.declared.ShareAnswer.{ShareAnswer}
-use Rattle.valid_pools.specs.declared.ShareAnswer.TheVariants.{Share, Refused}
 use Rattle.images.specs.OnImages.{OnImage}
 
 -- four numbers; 17 where the answer has under four places, and all stays
@@ -54,14 +55,26 @@ Listed f xs a r = OnImage xs (λ n. record { number = n; places = a }) (λ s. li
 
 -- ---- one device
 
-abbrev pub FoundOn : List ℕ → ℕ → Found → Type 0
-FoundOn xs d r = OnImage xs not_found (λ s. found_of s d) r
+-- the number of a refusal and zeros, or 0 and the device
+pub record FoundReply : Type 0 where
+  pub number : ℕ
+  pub device : Found
+
+abbrev pub not_found : ℕ → FoundReply
+not_found n = record { number = n; device = record { range = 0; capacity = 0; sum = 0; points = 0 } }
+
+abbrev pub found_reply : Result Found Refusal → FoundReply
+found_reply (Ok f) = record { number = 0; device = f }
+found_reply (Err e) = not_found (number e)
+
+abbrev pub FoundOn : List ℕ → ℕ → Result Found Refusal → Type 0
+FoundOn xs d r = OnImage xs not_found (λ s. found_reply (found_of s d)) (found_reply r)
 
 -- ---- the share of a device
 
-abbrev pub share_told : List ℕ → ShareAnswer → Answer
-share_told a (Refused n) = record { number = n; places = zeros 1 a }
-share_told a (Share x) = record { number = 0; places = x ∷ drop 1 a }
+abbrev pub share_told : List ℕ → Result ℕ Refusal → Answer
+share_told a (Err e) = record { number = number e; places = zeros 1 a }
+share_told a (Ok x) = record { number = 0; places = x ∷ drop 1 a }
 
 pub record Shared (xs : List ℕ) (d : ℕ) (a : List ℕ) (r : Answer) : Type 0 where
   pub short : length a < 1 → r ≡ record { number = 17; places = a }

@@ -4,18 +4,18 @@
 --   row_of u             the ten numbers of an outcome
 --   counters_in t        the counters of a tally
 --   tally_of c t         the tally afterwards
-use Rattle.std.specs.Prelude.{List, [], ◌∷◌, ◌++◌, ℕ, drop}
+use Rattle.std.specs.Prelude.{List, [], ◌∷◌, ◌++◌, ℕ, Result, Ok, Err, drop}
+use Rattle.refusals.specs.Replies.{number}
+use Rattle.refusals.specs.declared.Refusal.{Refusal}
 use Rattle.slicing_core.specs.Rows.{at}
 use Rattle.lookups.specs.Copies.{Outcome}
 use Rattle.lookups.specs.declared.Counters.{Counters}
-use Rattle.lookups.specs.declared.OwnerAnswer.{OwnerAnswer}
-use Rattle.lookups.specs.declared.OwnerAnswer.TheVariants.{Owner, Refused}
 use Rattle.answers.specs.Answers.{Answer, zeros}
 
 -- the owner's id in the first place, zero there on a refusal
-abbrev pub owner_told : List ℕ → OwnerAnswer → Answer
-owner_told a (Refused n) = record { number = n; places = zeros 1 a }
-owner_told a (Owner d) = record { number = 0; places = d ∷ drop 1 a }
+abbrev pub owner_told : List ℕ → Result ℕ Refusal → Answer
+owner_told a (Err e) = record { number = number e; places = zeros 1 a }
+owner_told a (Ok d) = record { number = 0; places = d ∷ drop 1 a }
 
 -- ten numbers: the refusal number or 0, eight owners, the probes
 abbrev pub row_of : Outcome → List ℕ

@@ -1,36 +1,23 @@
 -- What the offered lookups promise.
 --
---   point_reply r, owner_reply r    document 01's number and value of an answer
 --   Located block t R r       r answers the call for the point of a probe
 --   LookedIn .., Looked p x r     r answers the call for the owner of a point, on arrays of any contents and on a pool
 --   CopiedIn .., Copied p ..      r answers the call for copies, on arrays of any contents and on a pool
-use Rattle.std.specs.Prelude.{◌≡◌, Bool, cond, ◌||◌, List, ℕ, min, eqb, leb, ltb}
+use Rattle.std.specs.Prelude.{◌≡◌, Bool, cond, ◌||◌, List, ℕ, Result, Ok, Err, min, eqb, leb, ltb}
 use Rattle.lookup_core.specs.Halving.{owner_found, clamped}
 use Rattle.lookup_core.specs.Probes.{point_of}
 use Rattle.lookup_core.specs.Probing.{owner_of}
 use Rattle.pools.specs.Pools.{state_of, ValidPool}
 use Rattle.pools.specs.declared.Pool.{Pool}
 use Rattle.slicing.specs.Limits.{max_range, outside}
-use Rattle.slicing.specs.Replies.{Reply, replied, declined}
+use Rattle.refusals.specs.Replies.{reply, replied, declined}
+use Rattle.refusals.specs.declared.Refusal.{Refusal}
+use Rattle.refusals.specs.declared.Refusal.TheVariants.{Outside, NoDevice, PointOutside}
 use Rattle.slicing.specs.Runs.{owner_at}
 use Rattle.lookups.specs.Copies.{Outcome, refusal, copies_of}
 use Rattle.lookups.specs.Counting.{counted}
 use Rattle.lookups.specs.declared.CopiesAnswer.{CopiesAnswer}
 use Rattle.lookups.specs.declared.Counters.{Counters}
-use Rattle.lookups.specs.declared.OwnerAnswer.{OwnerAnswer}
-use Rattle.lookups.specs.declared.OwnerAnswer.TheVariants.{Owner, Refused}
-use Rattle.lookups.specs.declared.PointAnswer.{PointAnswer}
-
--- ---- replies
-
--- 'For an answer that is an enum, a definition gives this paper's number and values for each case of the enum.'
-abbrev pub point_reply : PointAnswer → Reply
-point_reply (PointAnswer.Point x) = replied x
-point_reply (PointAnswer.Refused n) = declined n
-
-abbrev pub owner_reply : OwnerAnswer → Reply
-owner_reply (Owner d) = replied d
-owner_reply (Refused n) = declined n
 
 -- ---- the point of a probe
 
@@ -38,28 +25,28 @@ owner_reply (Refused n) = declined n
 abbrev pub probe_outside : ℕ → ℕ → Bool
 probe_outside t R = ltb 255 t || outside max_range R
 
-pub record Located (block t R : ℕ) (r : PointAnswer) : Type 0 where
-  pub answer : r ≡ cond (probe_outside t R) (PointAnswer.Refused 2) (PointAnswer.Point (point_of block t R))
-  pub reply : point_reply r ≡ cond (probe_outside t R) (declined 2) (replied (point_of block t R))
+pub record Located (block t R : ℕ) (r : Result ℕ Refusal) : Type 0 where
+  pub answer : r ≡ cond (probe_outside t R) (Err Outside) (Ok (point_of block t R))
+  pub reply : reply r ≡ cond (probe_outside t R) (declined 2) (replied (point_of block t R))
 
 -- ---- the owner of a point
 
 -- '13: point at or above R', then '10: no device', else the owner d
-abbrev pub owner_answer : ℕ → ℕ → ℕ → ℕ → OwnerAnswer
-owner_answer R n x d = cond (leb R x) (Refused 13) (cond (eqb n 0) (Refused 10) (Owner d))
+abbrev pub owner_answer : ℕ → ℕ → ℕ → ℕ → Result ℕ Refusal
+owner_answer R n x d = cond (leb R x) (Err PointOutside) (cond (eqb n 0) (Err NoDevice) (Ok d))
 
-pub record LookedIn (s o : List ℕ) (q n R x : ℕ) (r : OwnerAnswer) : Type 0 where
+pub record LookedIn (s o : List ℕ) (q n R x : ℕ) (r : Result ℕ Refusal) : Type 0 where
   pub answer : r ≡ owner_answer R n x (owner_found s o (clamped q) x)
-  pub reply : owner_reply r ≡ cond (leb R x) (declined 13) (cond (eqb n 0) (declined 10) (replied (owner_found s o (clamped q) x)))
+  pub reply : reply r ≡ cond (leb R x) (declined 13) (cond (eqb n 0) (declined 10) (replied (owner_found s o (clamped q) x)))
 
 -- 'A plain call gives the owner of a point': of a valid pool, by the rules' table; any other is refused with 2
-pub record Looked (p : Pool) (x : ℕ) (r : OwnerAnswer) : Type 0 where
+pub record Looked (p : Pool) (x : ℕ) (r : Result ℕ Refusal) : Type 0 where
   pub valid : ValidPool p → r ≡ owner_answer p.range p.devices x (owner_at (state_of p).table x)
   pub reply : ValidPool p
-      → owner_reply r
+      → reply r
       ≡ cond (leb p.range x) (declined 13) (cond (eqb p.devices 0) (declined 10) (replied (owner_at (state_of p).table x)))
-  pub invalid : (ValidPool p → ⊥) → r ≡ Refused 2
-  pub invalid_reply : (ValidPool p → ⊥) → owner_reply r ≡ declined 2
+  pub invalid : (ValidPool p → ⊥) → r ≡ Err Outside
+  pub invalid_reply : (ValidPool p → ⊥) → reply r ≡ declined 2
 
 -- ---- copies
 

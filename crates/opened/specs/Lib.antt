@@ -1,1 +1,2 @@
 pub mod OpenPools
+pub mod RowsById

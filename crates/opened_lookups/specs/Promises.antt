@@ -2,7 +2,8 @@
 --
 --   OpenedMemory, opened_as       what opening an image leaves; from the state that the image gives
 --   OwnedIn, CopiedOneIn         the lookups on the arrays of an opened pool, of any contents
-use Rattle.std.specs.Prelude.{◌≡◌, List, ◌∷◌, ◌++◌, ℕ, ◌≤◌, ◌<◌, min, length, drop}
+use Rattle.std.specs.Prelude.{◌≡◌, List, ◌∷◌, ◌++◌, ℕ, ◌≤◌, ◌<◌, Result, min, length, drop}
+use Rattle.refusals.specs.declared.Refusal.{Refusal}
 use Rattle.slicing.specs.Changes.{State}
 use Rattle.slicing.specs.Limits.{max_range}
 use Rattle.slicing_core.specs.Rows.{at}
@@ -11,7 +12,6 @@ use Rattle.lookup_core.specs.Halving.{owner_found, clamped}
 use Rattle.lookup_core.specs.Probing.{owner_of}
 use Rattle.lookups.specs.Copies.{Outcome, copies_of}
 use Rattle.lookups.specs.Promises.{owner_answer}
-use Rattle.lookups.specs.declared.OwnerAnswer.{OwnerAnswer}
 use Rattle.images.specs.OnImages.{OnImage}
 use Rattle.answers.specs.Answers.{Answer}
 use Rattle.lookup_numbers.specs.Told.{owner_told}
@@ -44,7 +44,7 @@ pub record OpenedFrom (xs s o m : List ℕ) (r : OpenedMemory) : Type 0 where
   pub room : 4096 ≤ length s → 4096 ≤ length o → 3 ≤ length m → OnImage xs (λ n. unopened n s o m) (opened_as s o m) r
 
 -- arrays and numbers of any contents: 13, 10, or the owner that halving finds in them
-abbrev pub answer_in : List ℕ → List ℕ → List ℕ → ℕ → OwnerAnswer
+abbrev pub answer_in : List ℕ → List ℕ → List ℕ → ℕ → Result ℕ Refusal
 answer_in s o m x = owner_answer (at m 0) (at m 2) x (owner_found s o (clamped (at m 1)) x)
 
 pub record OwnedIn (s o m : List ℕ) (x : ℕ) (a : List ℕ) (r : Answer) : Type 0 where

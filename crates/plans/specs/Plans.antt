@@ -1,9 +1,11 @@
 -- What a plan is, and what the six steps on an opened pool start from.
 --
---   Planned outcome places o r work next     r is the plan of a change of the opened pool o, whose outcome the rules give for every
---                                            lent list of so many places: `work` has its turns, `next` the new table
+--   Planned outcome places r work next       r is the plan of a change, or its refusal, whose outcome the rules give for every lent
+--                                            list of so many places: `work` has its turns, `next` the new table
 --   Merged o e rows work                     the rows that take part in the change of o to the devices of e, `work` having their table
-use Rattle.std.specs.Prelude.{◌≡◌, List, map, ℕ, ◌^◌, ◌≤◌, ◌<◌, length}
+use Rattle.std.specs.Prelude.{◌≡◌, List, map, ℕ, ◌^◌, ◌≤◌, ◌<◌, Result, Ok, Err, length}
+use Rattle.refusals.specs.Replies.{number}
+use Rattle.refusals.specs.declared.Refusal.{Refusal}
 use Rattle.slicing.specs.Changes.{State, Outcome}
 use Rattle.slicing.specs.Claims.{written}
 use Rattle.slicing.specs.Devices.{Rising}
@@ -21,20 +23,29 @@ use Rattle.opened.specs.declared.Opened.{Opened}
 use Rattle.plans.specs.declared.Plan.{Plan}
 use Rattle.plans.specs.declared.Rows.{Rows}
 
-pub record Planned (outcome : List Move → Outcome) (places : ℕ) (o : Opened) (r : Plan) (work next : List ℕ) : Type 0 where
-  pub number : (lent : List Move) → length lent ≡ places → r.refusal ≡ (outcome lent).number
-  pub moved : (lent : List Move) → length lent ≡ places → r.moved ≡ (outcome lent).moved
-  pub count : (lent : List Move) → length lent ≡ places → r.count ≡ (outcome lent).count
-  -- the moves are the turns whose owner changes, their rows named by ids; none where the change is refused
+-- an accepted change: the rules' outcome for every lent list of so many places
+pub record Accepted (outcome : List Move → Outcome) (places : ℕ) (p : Plan) (work next : List ℕ) : Type 0 where
+  pub number : (lent : List Move) → length lent ≡ places → (outcome lent).number ≡ 0
+  pub moved : (lent : List Move) → length lent ≡ places → p.moved ≡ (outcome lent).moved
+  pub count : (lent : List Move) → length lent ≡ places → p.count ≡ (outcome lent).count
+  -- the moves are the turns whose owner changes, their rows named by ids
   pub moves : (lent : List Move) → length lent ≡ places
-      → map (move_as (at r.names)) (moves_from 0 (turns_of work 0 r.turns)) ≡ written (outcome lent)
-  pub most : r.turns ≤ room
-  pub points : total (runs work 0 r.turns) < 2 ^ 48
-  -- refused: the pool as it was
-  pub refused : (r.refusal ≡ 0 → ⊥) → r.after ≡ o
-  -- accepted: an opened pool again, with the rules' state
-  pub state : r.refusal ≡ 0 → (lent : List Move) → length lent ≡ places → state_in r.after next ≡ (outcome lent).state
-  pub opened : r.refusal ≡ 0 → Open r.after next
+      → map (move_as (at p.names)) (moves_from 0 (turns_of work 0 p.turns)) ≡ written (outcome lent)
+  pub most : p.turns ≤ room
+  pub points : total (runs work 0 p.turns) < 2 ^ 48
+  -- an opened pool again, with the rules' state
+  pub state : (lent : List Move) → length lent ≡ places → state_in p.after next ≡ (outcome lent).state
+  pub opened : Open p.after next
+
+-- a refused one: the rules refuse it with that number, and nothing moves
+pub record Declined (outcome : List Move → Outcome) (places : ℕ) (e : Refusal) : Type 0 where
+  pub number : (lent : List Move) → length lent ≡ places → (outcome lent).number ≡ number e
+  pub moved : (lent : List Move) → length lent ≡ places → (outcome lent).moved ≡ 0
+  pub count : (lent : List Move) → length lent ≡ places → (outcome lent).count ≡ 0
+
+pub data Planned (outcome : List Move → Outcome) (places : ℕ) (r : Result Plan Refusal) (work next : List ℕ) : Type 0 where
+  accepted : (p : Plan) → r ≡ Ok p → Accepted outcome places p work next → Planned outcome places r work next
+  refused : (e : Refusal) → r ≡ Err e → Declined outcome places e → Planned outcome places r work next
 
 -- the state before a change, its table read by the names of the rows
 abbrev pub state_by : Opened → Rows → List ℕ → State

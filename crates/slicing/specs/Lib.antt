@@ -1,5 +1,4 @@
 pub mod Limits
-pub mod Replies
 pub mod Runs
 pub mod Devices
 pub mod Dues

@@ -1,30 +1,25 @@
 -- One device, found by its id in an opened pool or in a pool by value.
 --
---   not_found n          a refusal: its number n and zeros
 --   numbers_of s id      the range, and of the device id its capacity, the sum of all capacities, its share
 --   found_of s id        these, or the refusal
 --   FoundIn s id r      r is that
 --   FoundOf p id r      r is that of a valid pool p, or 2
---   Measured r          products of the numbers of r are far inside 64 bits with a sign, and a sum that is found is not 0
---   report_from r        the report on the device r
-use Rattle.std.specs.Prelude.{◌≡◌, cond, ℕ, ◌+◌, ◌*◌, ◌/◌, ◌%◌, ◌≤◌, ltb, pos, ◌-ℤ◌}
+--   Measured f          products of the numbers of the device f are far inside 64 bits with a sign, and the sum is not 0
+--   report_from f        the report on the device f
+use Rattle.std.specs.Prelude.{◌≡◌, cond, ℕ, ◌+◌, ◌*◌, ◌/◌, ◌%◌, ◌≤◌, pos, ◌-ℤ◌, Result, Ok, Err}
+use Rattle.refusals.specs.declared.Refusal.{Refusal}
+use Rattle.refusals.specs.declared.Refusal.TheVariants.{Outside, Absent}
 use Rattle.slicing.specs.Changes.{State}
 use Rattle.slicing.specs.Devices.{capacities, present, capacity_of}
 use Rattle.slicing.specs.Limits.{max_id, outside}
-use Rattle.slicing.specs.Reports.{no_report}
 use Rattle.slicing.specs.ShareRule.{share_of}
 use Rattle.pools.specs.Pools.{state_of, ValidPool}
 use Rattle.pools.specs.declared.Pool.{Pool}
-use Rattle.valid_pools.specs.Promises.{report_as}
-use Rattle.valid_pools.specs.declared.ReportAnswer.{ReportAnswer}
+use Rattle.valid_pools.specs.declared.Report.{Report}
 use Rattle.valid_pools.specs.declared.finding.Found.{Found}
-
-abbrev pub not_found : ℕ → Found
-not_found n = record { refusal = n; range = 0; capacity = 0; sum = 0; points = 0 }
 
 abbrev pub numbers_of : State → ℕ → Found
 numbers_of s id = record {
-  refusal = 0;
   range = s.range;
   capacity = capacity_of s.devices id;
   sum = capacities s.devices;
@@ -32,27 +27,24 @@ numbers_of s id = record {
 }
 
 -- 2 for an id outside its limits, 5 for an absent one
-abbrev pub found_of : State → ℕ → Found
-found_of s id = cond (outside max_id id) (not_found 2) (cond (present id s.devices) (numbers_of s id) (not_found 5))
+abbrev pub found_of : State → ℕ → Result Found Refusal
+found_of s id = cond (outside max_id id) (Err Outside) (cond (present id s.devices) (Ok (numbers_of s id)) (Err Absent))
 
-pub record FoundIn (s : State) (id : ℕ) (r : Found) : Type 0 where
+pub record FoundIn (s : State) (id : ℕ) (r : Result Found Refusal) : Type 0 where
   pub same : r ≡ found_of s id
 
-pub data FoundOf (p : Pool) (id : ℕ) (r : Found) : Type 0 where
+pub data FoundOf (p : Pool) (id : ℕ) (r : Result Found Refusal) : Type 0 where
   found : ValidPool p → FoundIn (state_of p) id r → FoundOf p id r
-  invalid : (ValidPool p → ⊥) → r ≡ not_found 2 → FoundOf p id r
+  invalid : (ValidPool p → ⊥) → r ≡ Err Outside → FoundOf p id r
 
-pub record Measured (r : Found) : Type 0 where
-  pub due : r.range * r.capacity ≤ 68719476736000000
-  pub held : r.points * r.sum ≤ 68719476736000000 + 256 * 4096000000
-  pub some : r.refusal ≤ 0 → 1 ≤ r.sum
+pub record Measured (f : Found) : Type 0 where
+  pub due : f.range * f.capacity ≤ 68719476736000000
+  pub held : f.points * f.sum ≤ 68719476736000000 + 256 * 4096000000
+  pub some : 1 ≤ f.sum
 
-abbrev pub report_from : Found → ReportAnswer
-report_from r =
-    cond (ltb 0 r.refusal) (report_as (no_report r.refusal))
-    (record {
-      refusal = 0;
-      whole = r.range * r.capacity / r.sum;
-      remainder = r.range * r.capacity % r.sum;
-      difference = pos (r.points * r.sum) -ℤ pos (r.range * r.capacity);
-    })
+abbrev pub report_from : Found → Report
+report_from f = record {
+  whole = f.range * f.capacity / f.sum;
+  remainder = f.range * f.capacity % f.sum;
+  difference = pos (f.points * f.sum) -ℤ pos (f.range * f.capacity);
+}
