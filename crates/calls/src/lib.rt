@@ -13,11 +13,10 @@ use opened::devices::{find, shared};
 use packed_runs::ROOM;
 use plans::first::first;
 use plans::labels::raise;
-use plans::settling::{refused, settle};
+use plans::settling::settle;
 use plans::{Plan, Rows};
-use slicing::{
-    ABSENT, FULL, MAX_DEVICES, MAX_ID, ONLY_DEVICE, OUTSIDE, PRESENT, device_outside, outside,
-};
+use refusals::Refusal;
+use slicing::{MAX_DEVICES, MAX_ID, device_outside, outside};
 use slicing_core::devices::{delete_row, insert_row};
 
 // The row of none: where no row comes in, or none goes.
@@ -41,40 +40,34 @@ fn add(
     table: &[u64; ROOM],
     work: &mut [u64; ROOM],
     next: &mut [u64; ROOM],
-) -> Plan
+) -> Result<Plan, Refusal>
     requires { Open before table.now × (length work.old ≡ room) × (length next.old ≡ room) }
-    ensures planned { Planned (λ lent. Changes.change (state_in before table.now) lent (Changes.add id capacity)) places before result work.new next.new }
+    ensures planned { Planned (λ lent. Changes.change (state_in before table.now) lent (Changes.add id capacity)) places result work.new next.new }
     ensures work_len { (length work.new ≡ room) × (length next.new ≡ room) }
 {
     if device_outside(id, capacity) {
-        return refused(before, OUTSIDE);
+        return Err(Refusal::Outside);
     }
     let n = before.devices;
-    let ids = before.ids;
-    let place = find(&ids, n, id);
-    if place.present {
-        return refused(before, PRESENT);
-    }
+    let Err(row) = find(&before.ids, n, id) else {
+        return Err(Refusal::Present);
+    };
     if n >= MAX_DEVICES {
-        return refused(before, FULL);
+        return Err(Refusal::Full);
     }
     if n == 0 {
-        return first(before, id, capacity, next);
+        return Ok(first(before, id, capacity, next));
     }
-    let row = place.row;
-    let capacities = before.capacities;
-    let has = before.has;
-    let names = insert_row(&ids, n, row, id);
-    let grown = insert_row(&capacities, n, row, capacity);
+    let names = insert_row(&before.ids, n, row, id);
+    let grown = insert_row(&before.capacities, n, row, capacity);
     let after = shared(before, n + 1, &names, &grown);
-    let due = after.has;
     raise(table, before.intervals, row, &mut *work);
     let rows = Rows {
         count: n + 1,
         gone: NO_ROW,
-        names: names,
-        has: insert_row(&has, n, row, 0),
-        due: due,
+        names,
+        has: insert_row(&before.has, n, row, 0),
+        due: after.has,
     };
     settle(before, after, rows, places, work, next)
 }
@@ -87,37 +80,31 @@ fn remove(
     table: &[u64; ROOM],
     work: &mut [u64; ROOM],
     next: &mut [u64; ROOM],
-) -> Plan
+) -> Result<Plan, Refusal>
     requires { Open before table.now × (length work.old ≡ room) × (length next.old ≡ room) }
-    ensures planned { Planned (λ lent. Changes.change (state_in before table.now) lent (Changes.remove id)) places before result work.new next.new }
+    ensures planned { Planned (λ lent. Changes.change (state_in before table.now) lent (Changes.remove id)) places result work.new next.new }
     ensures work_len { (length work.new ≡ room) × (length next.new ≡ room) }
 {
     if outside(MAX_ID, id) {
-        return refused(before, OUTSIDE);
+        return Err(Refusal::Outside);
     }
     let n = before.devices;
-    let names = before.ids;
-    let held = find(&names, n, id);
-    if !held.present {
-        return refused(before, ABSENT);
-    }
+    let Ok(row) = find(&before.ids, n, id) else {
+        return Err(Refusal::Absent);
+    };
     if n <= 1 {
-        return refused(before, ONLY_DEVICE);
+        return Err(Refusal::OnlyDevice);
     }
-    let row = held.row;
-    let capacities = before.capacities;
-    let has = before.has;
-    let ids = delete_row(&names, n, row);
-    let fewer = delete_row(&capacities, n, row);
+    let ids = delete_row(&before.ids, n, row);
+    let fewer = delete_row(&before.capacities, n, row);
     let after = shared(before, n - 1, &ids, &fewer);
-    let shares = after.has;
     raise(table, before.intervals, NO_ROW, &mut *work);
     let rows = Rows {
         count: n,
         gone: row,
-        names: names,
-        has: has,
-        due: insert_row(&shares, n - 1, row, 0),
+        names: before.ids,
+        has: before.has,
+        due: insert_row(&after.has, n - 1, row, 0),
     };
     settle(before, after, rows, places, work, next)
 }
@@ -131,33 +118,28 @@ fn resize(
     table: &[u64; ROOM],
     work: &mut [u64; ROOM],
     next: &mut [u64; ROOM],
-) -> Plan
+) -> Result<Plan, Refusal>
     requires { Open before table.now × (length work.old ≡ room) × (length next.old ≡ room) }
-    ensures planned { Planned (λ lent. Changes.change (state_in before table.now) lent (Changes.resize id capacity)) places before result work.new next.new }
+    ensures planned { Planned (λ lent. Changes.change (state_in before table.now) lent (Changes.resize id capacity)) places result work.new next.new }
     ensures work_len { (length work.new ≡ room) × (length next.new ≡ room) }
 {
     if device_outside(id, capacity) {
-        return refused(before, OUTSIDE);
+        return Err(Refusal::Outside);
     }
     let n = before.devices;
-    let ids = before.ids;
-    let place = find(&ids, n, id);
-    if !place.present {
-        return refused(before, ABSENT);
-    }
-    let row = place.row;
+    let Ok(row) = find(&before.ids, n, id) else {
+        return Err(Refusal::Absent);
+    };
     let mut capacities = before.capacities;
     capacities[row] = capacity;
-    let after = shared(before, n, &ids, &capacities);
-    let has = before.has;
-    let due = after.has;
+    let after = shared(before, n, &before.ids, &capacities);
     raise(table, before.intervals, NO_ROW, &mut *work);
     let rows = Rows {
         count: n,
         gone: NO_ROW,
-        names: ids,
-        has: has,
-        due: due,
+        names: before.ids,
+        has: before.has,
+        due: after.has,
     };
     settle(before, after, rows, places, work, next)
 }
@@ -172,9 +154,9 @@ pub fn plan(
     table: &[u64; ROOM],
     work: &mut [u64; ROOM],
     next: &mut [u64; ROOM],
-) -> Plan
+) -> Result<Plan, Refusal>
     requires { Open before table.now × (length work.old ≡ room) × (length next.old ≡ room) }
-    ensures planned { Planned (λ lent. Changes.change (state_in before table.now) lent (change_of call)) places before result work.new next.new }
+    ensures planned { Planned (λ lent. Changes.change (state_in before table.now) lent (change_of call)) places result work.new next.new }
     ensures work_len { (length work.new ≡ room) × (length next.new ≡ room) }
 {
     match call {

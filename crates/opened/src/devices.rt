@@ -1,10 +1,11 @@
 // The devices of an opened pool: the row of an id, and their shares.
-ghost use Rattle.std.specs.Prelude.{◌≡◌, true, List, ℕ, ◌≤◌, ◌<◌, length};
+ghost use Rattle.std.specs.Prelude.{◌≡◌, ◌≤◌, length};
 ghost use Rattle.slicing.specs.Devices as Devices;
 ghost use Rattle.slicing.specs.Limits as Limits;
 ghost use Rattle.slicing.specs.ShareRule.{shares as shares_of};
-ghost use Rattle.slicing_core.specs.Rows.{at, rows, device_rows};
+ghost use Rattle.slicing_core.specs.Rows.{rows, device_rows};
 ghost use Rattle.slicing_core.specs.Stages.{Ascending, Position};
+ghost use Rattle.opened.specs.RowsById.{Sought};
 
 use crate::Opened;
 use shares::shares;
@@ -28,31 +29,16 @@ pub fn position(ids: &[u64; MAX_DEVICES], n: usize, id: u64) -> usize
     low
 }
 
-// The row of a device, or the row that it would have.
-#[derive(Clone, Copy)]
-pub struct Place {
-    pub row: usize,
-    pub present: bool,
-}
-
-pub fn find(ids: &[u64; MAX_DEVICES], n: usize, id: u64) -> Place
+// The row of a device; where it is absent, as an error, the row that it would have.
+pub fn find(ids: &[u64; MAX_DEVICES], n: usize, id: u64) -> Result<usize, usize>
     requires { (n ≤ 256) × Ascending ids.now n }
-    ensures row { Position ids.now n id result.row }
-    ensures present { (c : List ℕ) → result.present ≡ Devices.present id (device_rows ids.now c 0 n) }
-    ensures found { result.present ≡ true → (result.row < n) × (at ids.now result.row ≡ id) }
+    ensures { Sought ids.now n id result }
 {
     let row = position(ids, n, id);
-    if row < n {
-        if ids[row] == id {
-            return Place {
-                row: row,
-                present: true,
-            };
-        }
-    }
-    Place {
-        row: row,
-        present: false,
+    if row < n && ids[row] == id {
+        Ok(row)
+    } else {
+        Err(row)
     }
 }
 

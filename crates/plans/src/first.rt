@@ -5,7 +5,7 @@ ghost use Rattle.slicing.specs.Devices as Devices;
 ghost use Rattle.slicing.specs.Limits as Limits;
 ghost use Rattle.slicing.specs.Runs.{◌of◌};
 ghost use Rattle.packed_runs.specs.Words.{room};
-ghost use Rattle.plans.specs.Plans.{Planned};
+ghost use Rattle.plans.specs.Plans.{Accepted};
 
 use crate::Plan;
 use opened::Opened;
@@ -16,8 +16,8 @@ pub fn first(before: Opened, id: u64, capacity: u64, next: &mut [u64; ROOM]) -> 
     requires le_range { (1 ≤ before.range) × (before.range ≤ 4294967296) × (1 ≤ before.limit) × (before.limit ≤ 4096) }
     requires le_id { (1 ≤ id) × (id ≤ 65535) × (1 ≤ capacity) × (capacity ≤ Limits.max_capacity) × (length next.old ≡ room) }
     requires ids_len { (length before.ids ≡ 256) × (length before.capacities ≡ 256) × (length before.has ≡ 256) }
-    ensures planned { (s : Changes.State) (places : ℕ) (work : List ℕ) → s.range ≡ before.range → s.limit ≡ before.limit
-        → Planned (λ lent. Changes.accepted s lent (Devices.device id capacity ∷ []) ((s.range of id) ∷ []) []) places before result work next.new }
+    ensures accepted { (s : Changes.State) (places : ℕ) (work : List ℕ) → s.range ≡ before.range → s.limit ≡ before.limit
+        → Accepted (λ lent. Changes.accepted s lent (Devices.device id capacity ∷ []) ((s.range of id) ∷ []) []) places result work next.new }
     ensures next_len { length next.new ≡ room }
 {
     next[0] = before.range * LABELS;
@@ -27,13 +27,11 @@ pub fn first(before: Opened, id: u64, capacity: u64, next: &mut [u64; ROOM]) -> 
     after.capacities[0] = capacity;
     after.has[0] = before.range;
     after.intervals = 1;
-    let names = after.ids;
     Plan {
-        refusal: 0,
         moved: 0,
         count: 0,
         turns: 0,
-        names: names,
-        after: after,
+        names: after.ids,
+        after,
     }
 }

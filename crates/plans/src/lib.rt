@@ -9,11 +9,10 @@ pub mod settling;
 use opened::Opened;
 use slicing::MAX_DEVICES;
 
-// A change worked out: the refusal number or 0, the moved points, the number of moves, how many turns there
-// are, the ids by which their rows are named, and the pool afterwards.
+// A change worked out: the moved points, the number of moves, how many turns there are, the ids by which their
+// rows are named, and the pool afterwards.
 #[derive(Clone, Copy)]
 pub struct Plan {
-    pub refusal: u32,
     pub moved: u64,
     pub count: usize,
     pub turns: usize,
