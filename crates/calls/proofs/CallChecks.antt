@@ -15,6 +15,9 @@ use Prim.Native.Nat.{ℕ, ◌≤◌, ◌<◌}
 use native.Mathlib.Omega.{arith}
 use lib.ListN.{length}
 use borrow.Author.Tests.{le-leb, lt-leb}
+use Rattle.std.specs.Prelude.{Result, Err}
+use Rattle.refusals.specs.declared.Refusal.{Refusal}
+use Rattle.refusals.specs.declared.Refusal.TheVariants.{Outside, Present, Absent, Full, OnlyDevice}
 use Rattle.slicing.specs.Changes.{State, Change, change, add, remove, resize, accepted, settle, admit}
 use Rattle.slicing.specs.Devices.{Device, device, present, insert, delete, update, Within}
 use Rattle.slicing.specs.Limits.{max_devices, max_id, max_capacity, outside, device_outside}
@@ -34,7 +37,7 @@ use Rattle.plans.specs.declared.Plan.{Plan}
 use Rattle.plans.specs.declared.Rows.{Rows}
 use Rattle.calls.proofs.MergedRows.{Prepared}
 use Rattle.calls.proofs.NextDevices.{open_few}
-use Rattle.plans.proofs.Planning.{Refusal, planned_same, planned_refused}
+use Rattle.plans.proofs.Planning.{planned_same, planned_refused}
 use Rattle.opened.proofs.RowNames.{length_relabel, length_runs}
 
 -- ---- an opened pool
@@ -71,36 +74,36 @@ admit_some s lent d c (x ∷ ds) l = refl
 
 -- ---- the checks
 
-abbrev PlanOf : Opened → List ℕ → Change → ℕ → Plan → List ℕ → List ℕ → Type 0
-PlanOf o table k places r work next = Planned (λ lent. change (state_in o table) lent k) places o r work next
+abbrev PlanOf : Opened → List ℕ → Change → ℕ → Result Plan Refusal → List ℕ → List ℕ → Type 0
+PlanOf o table k places r work next = Planned (λ lent. change (state_in o table) lent k) places r work next
 
 -- a call is the change that it asks for
-pub planned_called : (o : Opened) (table : List ℕ) (j k : Call) {places : ℕ} {r : Plan} {work next : List ℕ} → j ≡ k
+pub planned_called : (o : Opened) (table : List ℕ) (j k : Call) {places : ℕ} {r : Result Plan Refusal} {work next : List ℕ} → j ≡ k
     → PlanOf o table (change_of k) places r work next → PlanOf o table (change_of j) places r work next
 planned_called o table j k e = planned_same (λ lent l. ap (λ x. change (state_in o table) lent (change_of x)) (sym e))
 
-module _ (o : Opened) (table : List ℕ) (d : ℕ) {places : ℕ} {r : Plan} {work next : List ℕ} where
+module _ (o : Opened) (table : List ℕ) (d : ℕ) {places : ℕ} {r : Result Plan Refusal} {work next : List ℕ} where
   module _ (c : ℕ) where
-    pub add_two : device_outside d c ≡ true → Refusal o 2 r → PlanOf o table (add d c) places r work next
+    pub add_two : device_outside d c ≡ true → r ≡ Err Outside → PlanOf o table (add d c) places r work next
     unfolding change
-    add_two m e = planned_refused (state_in o table) 2 (omega arith) e (λ lent l. rw m)
+    add_two m e = planned_refused (state_in o table) Outside e (λ lent l. rw m)
 
-    pub resize_two : device_outside d c ≡ true → Refusal o 2 r → PlanOf o table (resize d c) places r work next
+    pub resize_two : device_outside d c ≡ true → r ≡ Err Outside → PlanOf o table (resize d c) places r work next
     unfolding change
-    resize_two m e = planned_refused (state_in o table) 2 (omega arith) e (λ lent l. rw m)
+    resize_two m e = planned_refused (state_in o table) Outside e (λ lent l. rw m)
 
     module _ (m : device_outside d c ≡ false) where
-      pub add_four : present d (devices_in o) ≡ true → Refusal o 4 r → PlanOf o table (add d c) places r work next
+      pub add_four : present d (devices_in o) ≡ true → r ≡ Err Present → PlanOf o table (add d c) places r work next
       unfolding change
-      add_four g e = planned_refused (state_in o table) 4 (omega arith) e (λ lent l. rw (m, g))
+      add_four g e = planned_refused (state_in o table) Present e (λ lent l. rw (m, g))
 
-      pub add_six : present d (devices_in o) ≡ false → max_devices ≤ o.devices → Refusal o 6 r → PlanOf o table (add d c) places r work next
+      pub add_six : present d (devices_in o) ≡ false → max_devices ≤ o.devices → r ≡ Err Full → PlanOf o table (add d c) places r work next
       unfolding change
       add_six g n e =
-          planned_refused (state_in o table) 6 (omega arith) e
+          planned_refused (state_in o table) Full e
           (λ lent l. rw (m, g, le-leb max_devices (length (devices_in o)) (omega (arith, length_devices o))))
 
-      pub add_first : o.devices ≡ 0 → Planned (λ lent. accepted (state_in o table) lent (device d c ∷ []) ((o.range of d) ∷ []) []) places o r work next
+      pub add_first : o.devices ≡ 0 → Planned (λ lent. accepted (state_in o table) lent (device d c ∷ []) ((o.range of d) ∷ []) []) places r work next
           → PlanOf o table (add d c) places r work next
       unfolding change
       add_first z =
@@ -108,7 +111,7 @@ module _ (o : Opened) (table : List ℕ) (d : ℕ) {places : ℕ} {r : Plan} {wo
           planned_same (λ lent l. rw (m, none))
 
       pub add_settle : present d (devices_in o) ≡ false → o.devices < max_devices → 1 ≤ o.devices → {e : Opened} {rs : Rows} {rows : List ℕ}
-          → Prepared o table e rs rows (insert d c (devices_in o)) → Planned (λ lent. settle shares (state_by o rs rows) lent (devices_in e)) places o r work next
+          → Prepared o table e rs rows (insert d c (devices_in o)) → Planned (λ lent. settle shares (state_by o rs rows) lent (devices_in e)) places r work next
           → PlanOf o table (add d c) places r work next
       unfolding change
       add_settle g n some p =
@@ -116,32 +119,32 @@ module _ (o : Opened) (table : List ℕ) (d : ℕ) {places : ℕ} {r : Plan} {wo
           ∙ sym (rw (m, g, lt-leb max_devices (length (devices_in o)) (omega (arith, length_devices o)))
           (admit_some (state_in o table) lent d c (devices_in o) (omega (arith, length_devices o)))))
 
-      pub resize_five : present d (devices_in o) ≡ false → Refusal o 5 r → PlanOf o table (resize d c) places r work next
+      pub resize_five : present d (devices_in o) ≡ false → r ≡ Err Absent → PlanOf o table (resize d c) places r work next
       unfolding change
-      resize_five g e = planned_refused (state_in o table) 5 (omega arith) e (λ lent l. rw (m, g))
+      resize_five g e = planned_refused (state_in o table) Absent e (λ lent l. rw (m, g))
 
       pub resize_settle : present d (devices_in o) ≡ true → {e : Opened} {rs : Rows} {rows : List ℕ}
-          → Prepared o table e rs rows (update d c (devices_in o)) → Planned (λ lent. settle shares (state_by o rs rows) lent (devices_in e)) places o r work next
+          → Prepared o table e rs rows (update d c (devices_in o)) → Planned (λ lent. settle shares (state_by o rs rows) lent (devices_in e)) places r work next
           → PlanOf o table (resize d c) places r work next
       unfolding change
       resize_settle g p = planned_same (λ lent l. settle_prepared p lent ∙ sym (rw (m, g)))
 
-  pub remove_two : outside max_id d ≡ true → Refusal o 2 r → PlanOf o table (remove d) places r work next
+  pub remove_two : outside max_id d ≡ true → r ≡ Err Outside → PlanOf o table (remove d) places r work next
   unfolding change
-  remove_two i e = planned_refused (state_in o table) 2 (omega arith) e (λ lent l. rw i)
+  remove_two i e = planned_refused (state_in o table) Outside e (λ lent l. rw i)
 
   module _ (i : outside max_id d ≡ false) where
-    pub remove_five : present d (devices_in o) ≡ false → Refusal o 5 r → PlanOf o table (remove d) places r work next
+    pub remove_five : present d (devices_in o) ≡ false → r ≡ Err Absent → PlanOf o table (remove d) places r work next
     unfolding change
-    remove_five g e = planned_refused (state_in o table) 5 (omega arith) e (λ lent l. rw (i, g))
+    remove_five g e = planned_refused (state_in o table) Absent e (λ lent l. rw (i, g))
 
-    pub remove_seven : present d (devices_in o) ≡ true → o.devices ≤ 1 → Refusal o 7 r → PlanOf o table (remove d) places r work next
+    pub remove_seven : present d (devices_in o) ≡ true → o.devices ≤ 1 → r ≡ Err OnlyDevice → PlanOf o table (remove d) places r work next
     unfolding change
     remove_seven g n e =
-        planned_refused (state_in o table) 7 (omega arith) e (λ lent l. rw (i, g, le-leb (length (devices_in o)) 1 (omega (arith, length_devices o))))
+        planned_refused (state_in o table) OnlyDevice e (λ lent l. rw (i, g, le-leb (length (devices_in o)) 1 (omega (arith, length_devices o))))
 
     pub remove_settle : present d (devices_in o) ≡ true → 1 < o.devices → {e : Opened} {rs : Rows} {rows : List ℕ}
-        → Prepared o table e rs rows (delete d (devices_in o)) → Planned (λ lent. settle shares (state_by o rs rows) lent (devices_in e)) places o r work next
+        → Prepared o table e rs rows (delete d (devices_in o)) → Planned (λ lent. settle shares (state_by o rs rows) lent (devices_in e)) places r work next
         → PlanOf o table (remove d) places r work next
     unfolding change
     remove_settle g n p =

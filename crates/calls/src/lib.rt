@@ -62,12 +62,13 @@ fn add(
     let grown = insert_row(&before.capacities, n, row, capacity);
     let after = shared(before, n + 1, &names, &grown);
     raise(table, before.intervals, row, &mut *work);
+    let due = after.has;
     let rows = Rows {
         count: n + 1,
         gone: NO_ROW,
         names,
         has: insert_row(&before.has, n, row, 0),
-        due: after.has,
+        due,
     };
     settle(before, after, rows, places, work, next)
 }
@@ -134,12 +135,13 @@ fn resize(
     capacities[row] = capacity;
     let after = shared(before, n, &before.ids, &capacities);
     raise(table, before.intervals, NO_ROW, &mut *work);
+    let due = after.has;
     let rows = Rows {
         count: n,
         gone: NO_ROW,
         names: before.ids,
         has: before.has,
-        due: after.has,
+        due,
     };
     settle(before, after, rows, places, work, next)
 }

@@ -35,11 +35,12 @@ pub fn find(ids: &[u64; MAX_DEVICES], n: usize, id: u64) -> Result<usize, usize>
     ensures { Sought ids.now n id result }
 {
     let row = position(ids, n, id);
-    if row < n && ids[row] == id {
-        Ok(row)
-    } else {
-        Err(row)
+    if row < n {
+        if ids[row] == id {
+            return Ok(row);
+        }
     }
+    Err(row)
 }
 
 // The pool with the n devices, each having its share.

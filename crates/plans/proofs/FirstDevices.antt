@@ -3,7 +3,7 @@
 --   only o id capacity      the pool o with that device alone, which has the whole range
 --   only_table o next        its table, in the array next
 --
--- Planned: planned_only
+-- Accepted: accepted_only
 use mathlib.Core.Path.{◌≡◌, refl, sym, ◌∙◌, subst}
 use mathlib.Core.List.{List, [], ◌∷◌}
 use Prim.Native.Nat.{ℕ, ◌*◌, ◌/◌, ◌%◌, ◌≤◌}
@@ -21,7 +21,7 @@ use Rattle.slicing.proofs.Limits.{within_limits}
 use Rattle.slicing_core.specs.Rows.{at}
 use Rattle.packed_runs.specs.Words.{room}
 use Rattle.opened.specs.OpenPools.{state_in, Open}
-use Rattle.plans.specs.Plans.{Planned}
+use Rattle.plans.specs.Plans.{Accepted}
 use Rattle.opened.specs.declared.Opened.{Opened}
 
 abbrev only : Opened → ℕ → ℕ → Opened
@@ -74,23 +74,21 @@ module _ (o : Opened) (id capacity : ℕ) (next : List ℕ)
     table_size = length-set next 0 (o.range * 65536) ∙ given.4;
   }
 
-  pub planned_only : (s : State) (places : ℕ) (work : List ℕ) → s.range ≡ o.range → s.limit ≡ o.limit
-      → Planned (λ lent. accepted s lent (device id capacity ∷ []) ((s.range of id) ∷ []) []) places o (record {
-        refusal = 0;
+  pub accepted_only : (s : State) (places : ℕ) (work : List ℕ) → s.range ≡ o.range → s.limit ≡ o.limit
+      → Accepted (λ lent. accepted s lent (device id capacity ∷ []) ((s.range of id) ∷ []) []) places (record {
         moved = 0;
         count = 0;
         turns = 0;
         names = set o.ids 0 id;
         after = only o id capacity;
       }) work (only_table o next)
-  planned_only s places work e f = record {
+  accepted_only s places work e f = record {
     number = λ lent l. refl;
     moved = λ lent l. refl;
     count = λ lent l. refl;
     moves = λ lent l. refl;
     most = omega arith;
     points = omega arith;
-    refused = λ h. absurd (h refl);
-    state = λ z lent l. rw (e, f) state_only;
-    opened = λ z. open_only;
+    state = λ lent l. rw (e, f) state_only;
+    opened = open_only;
   }

@@ -5,7 +5,7 @@
 -- planned_same        a plan of one outcome is a plan of an equal one
 -- planned_refused     a plan that refuses, where the rules refuse
 -- settled_eight, settled_nine, settled_done     the rules' outcome, by what the steps give
--- planned_settled     a plan that accepts, where the rules accept
+-- accepted_settled    a plan that accepts, where the rules accept
 use mathlib.Core.Path.{◌≡◌, refl, sym, ap, ◌∙◌, subst}
 use mathlib.Core.List.{List, [], ◌∷◌, map}
 use Prim.Native.Nat.{ℕ, ◌+◌, ◌≤◌, ◌<◌}
@@ -13,6 +13,9 @@ use native.Mathlib.Omega.{arith}
 use lib.ListN.{length, drop, length-map}
 use lib.Seq.{take-append_seam}
 use borrow.Author.Tests.{lt-ltb, le-ltb}
+use Rattle.std.specs.Prelude.{Result, Ok, Err}
+use Rattle.refusals.specs.Replies.{number}
+use Rattle.refusals.specs.declared.Refusal.{Refusal}
 use Rattle.slicing.specs.Changes.{State, Outcome, refused, accepted, settle}
 use Rattle.slicing.specs.Claims.{written}
 use Rattle.slicing.specs.Runs.{Run, relabel}
@@ -28,7 +31,7 @@ use Rattle.six_steps.specs.declared.steps.Done.{Done}
 use Rattle.six_steps.proofs.Renaming.{move_as}
 use Rattle.plans.specs.Labels.{lowered}
 use Rattle.opened.specs.OpenPools.{devices_in, state_in, Open}
-use Rattle.plans.specs.Plans.{Planned, Merged, state_by}
+use Rattle.plans.specs.Plans.{Accepted, Declined, Planned, accepts, refuses, Merged, state_by}
 use Rattle.opened.specs.declared.Opened.{Opened}
 use Rattle.plans.specs.declared.Plan.{Plan}
 use Rattle.plans.specs.declared.Rows.{Rows}
@@ -38,37 +41,39 @@ use Rattle.opened.proofs.RowNames.{length_relabel, length_runs}
 
 -- ---- plans
 
-pub planned_same : {f g : List Move → Outcome} {places : ℕ} {o : Opened} {r : Plan} {work next : List ℕ}
-    → ((lent : List Move) → length lent ≡ places → f lent ≡ g lent) → Planned f places o r work next → Planned g places o r work next
-planned_same e p = record {
-  number = λ lent l. p.number lent l ∙ ap (λ k. k.number) (e lent l);
-  moved = λ lent l. p.moved lent l ∙ ap (λ k. k.moved) (e lent l);
-  count = λ lent l. p.count lent l ∙ ap (λ k. k.count) (e lent l);
-  moves = λ lent l. p.moves lent l ∙ ap written (e lent l);
-  most = p.most;
-  points = p.points;
-  refused = p.refused;
-  state = λ z lent l. p.state z lent l ∙ ap (λ k. k.state) (e lent l);
-  opened = p.opened;
+accepted_same : {f g : List Move → Outcome} {places : ℕ} {p : Plan} {work next : List ℕ}
+    → ((lent : List Move) → length lent ≡ places → f lent ≡ g lent) → Accepted f places p work next → Accepted g places p work next
+accepted_same e a = record {
+  number = λ lent l. sym (ap (λ k. k.number) (e lent l)) ∙ a.number lent l;
+  moved = λ lent l. a.moved lent l ∙ ap (λ k. k.moved) (e lent l);
+  count = λ lent l. a.count lent l ∙ ap (λ k. k.count) (e lent l);
+  moves = λ lent l. a.moves lent l ∙ ap written (e lent l);
+  most = a.most;
+  points = a.points;
+  state = λ lent l. a.state lent l ∙ ap (λ k. k.state) (e lent l);
+  opened = a.opened;
 }
 
--- what a plan that refuses with x says
-abbrev pub Refusal : Opened → ℕ → Plan → Type 0
-Refusal o x r = (r.refusal ≡ x) × (r.moved ≡ 0) × (r.count ≡ 0) × (r.turns ≡ 0) × (r.after ≡ o)
-
-pub planned_refused : {outcome : List Move → Outcome} {places : ℕ} {o : Opened} {r : Plan} {work next : List ℕ} (s : State) (x : ℕ) → 1 ≤ x → Refusal o x r
-    → ((lent : List Move) → length lent ≡ places → outcome lent ≡ refused s lent x) → Planned outcome places o r work next
-planned_refused {r = r} {work = work} s x some p h = record {
-  number = λ lent l. p.0 ∙ sym (ap (λ k. k.number) (h lent l));
-  moved = λ lent l. p.1 ∙ sym (ap (λ k. k.moved) (h lent l));
-  count = λ lent l. p.2 ∙ sym (ap (λ k. k.count) (h lent l));
-  moves = λ lent l. ap (λ t. map (move_as (at r.names)) (moves_from 0 (turns_of work 0 t))) p.3 ∙ sym (ap written (h lent l));
-  most = omega (arith, p.3);
-  points = rw p.3 (omega arith);
-  refused = λ z. p.4;
-  state = λ z. absurd (omega (arith, p.0));
-  opened = λ z. absurd (omega (arith, p.0));
+declined_same : {f g : List Move → Outcome} {places : ℕ} {x : Refusal}
+    → ((lent : List Move) → length lent ≡ places → f lent ≡ g lent) → Declined f places x → Declined g places x
+declined_same e d = record {
+  number = λ lent l. sym (ap (λ k. k.number) (e lent l)) ∙ d.number lent l;
+  moved = λ lent l. sym (ap (λ k. k.moved) (e lent l)) ∙ d.moved lent l;
+  count = λ lent l. sym (ap (λ k. k.count) (e lent l)) ∙ d.count lent l;
 }
+
+pub planned_same : {f g : List Move → Outcome} {places : ℕ} {r : Result Plan Refusal} {work next : List ℕ}
+    → ((lent : List Move) → length lent ≡ places → f lent ≡ g lent) → Planned f places r work next → Planned g places r work next
+planned_same e (accepts p is a) = accepts p is (accepted_same e a)
+planned_same e (refuses x is d) = refuses x is (declined_same e d)
+
+pub planned_refused : {outcome : List Move → Outcome} {places : ℕ} {r : Result Plan Refusal} {work next : List ℕ} (s : State) (x : Refusal) → r ≡ Err x
+    → ((lent : List Move) → length lent ≡ places → outcome lent ≡ refused s lent (number x)) → Planned outcome places r work next
+planned_refused s x is h = refuses x is (record {
+  number = λ lent l. ap (λ k. k.number) (h lent l);
+  moved = λ lent l. ap (λ k. k.moved) (h lent l);
+  count = λ lent l. ap (λ k. k.count) (h lent l);
+})
 
 -- ---- the rules' outcome
 
@@ -143,11 +148,11 @@ module _ {o e : Opened} {rs : Rows} {work : List ℕ} (m : Merged o e rs work) {
         table_size = size;
       }
 
-      pub planned_settled : (places : ℕ) (p : Plan) → r.count ≤ places → p.refusal ≡ 0 → p.moved ≡ r.moved → p.count ≡ r.count → p.turns ≡ r.turns
+      pub accepted_settled : (places : ℕ) (p : Plan) → r.count ≤ places → p.moved ≡ r.moved → p.count ≡ r.count → p.turns ≡ r.turns
           → p.names ≡ rs.names → p.after ≡ opened_with e r.intervals
-          → Planned (λ lent. settle shares (state_by o rs work) lent (devices_in e)) places o p turned last
-      planned_settled places p all er em ec et en ea = record {
-        number = λ lent l. er ∙ sym (ap (λ k. k.number) (done lent l));
+          → Accepted (λ lent. settle shares (state_by o rs work) lent (devices_in e)) places p turned last
+      accepted_settled places p all em ec et en ea = record {
+        number = λ lent l. ap (λ k. k.number) (done lent l);
         moved = λ lent l. em ∙ sym points_moves ∙ sym (ap (λ k. k.moved) (done lent l));
         count = λ lent l. ec ∙ sym count_moves ∙ sym (ap (λ k. k.count) (done lent l));
         moves = λ lent l.
@@ -158,9 +163,8 @@ module _ {o e : Opened} {rs : Rows} {work : List ℕ} (m : Merged o e rs work) {
             ∙ sym (ap written (done lent l));
         most = omega (arith, et, d.most);
         points = rw et (omega (arith, d.same, merged_points m, m.valid.most));
-        refused = λ z. absurd (z er);
-        state = λ z lent l. ap (λ a. state_in a last) ea ∙ state_settled ∙ sym (ap (λ k. k.state) (done lent l));
-        opened = λ z. subst (λ a. Open a last) (sym ea) open_settled;
+        state = λ lent l. ap (λ a. state_in a last) ea ∙ state_settled ∙ sym (ap (λ k. k.state) (done lent l));
+        opened = subst (λ a. Open a last) (sym ea) open_settled;
       }
         where
           ts : List (Run Turn)

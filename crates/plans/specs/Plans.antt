@@ -44,8 +44,8 @@ pub record Declined (outcome : List Move → Outcome) (places : ℕ) (e : Refusa
   pub count : (lent : List Move) → length lent ≡ places → (outcome lent).count ≡ 0
 
 pub data Planned (outcome : List Move → Outcome) (places : ℕ) (r : Result Plan Refusal) (work next : List ℕ) : Type 0 where
-  accepted : (p : Plan) → r ≡ Ok p → Accepted outcome places p work next → Planned outcome places r work next
-  refused : (e : Refusal) → r ≡ Err e → Declined outcome places e → Planned outcome places r work next
+  accepts : (p : Plan) → r ≡ Ok p → Accepted outcome places p work next → Planned outcome places r work next
+  refuses : (e : Refusal) → r ≡ Err e → Declined outcome places e → Planned outcome places r work next
 
 -- the state before a change, its table read by the names of the rows
 abbrev pub state_by : Opened → Rows → List ℕ → State

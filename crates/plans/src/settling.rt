@@ -35,7 +35,8 @@ pub fn settle(
         rows.count,
         &mut *next,
     );
-    if done.intervals > before.limit as usize {
+    let limit = before.limit as usize;
+    if done.intervals > limit {
         return Err(Refusal::OverLimit);
     }
     if done.count > places {

@@ -2,8 +2,10 @@
 -- rules' by other names, and the plan is that of the ending that they leave.
 use mathlib.Core.Path.{refl}
 use native.Mathlib.Omega.{arith}
+use Rattle.plans.specs.Plans.{accepts}
 use Rattle.plans.proofs.Merging.{merged_few, merged_points, merged_has, merged_due, merged_balanced}
-use Rattle.plans.proofs.Planning.{planned_refused, planned_settled, settled_eight, settled_nine}
+use Rattle.plans.proofs.Planning.{planned_refused, accepted_settled, settled_eight, settled_nine}
+use Rattle.refusals.specs.declared.Refusal.TheVariants.{OverLimit, ShortList}
 use Rattle.plans.proofs.settling.settle.Goals as goal
 
 pub steps-done-requires : goal.steps-done-requires
@@ -12,12 +14,12 @@ steps-done-requires c =
 
 pub returns-then-done-limit : goal.returns-then-done-limit
 returns-then-done-limit c =
-    let d = c.steps-done.ensures in record { planned = planned_refused _ 8 (omega arith) c.refused.ensures (λ lent l. settled_eight c.requires.0 d c.if-done-limit.true lent); work_len = (d.work_size, d.next_size) }
+    let d = c.steps-done.ensures in record { planned = planned_refused _ OverLimit refl (λ lent l. settled_eight c.requires.0 d c.if-done-limit.true lent); work_len = (d.work_size, d.next_size) }
 
 pub returns-then-done-places : goal.returns-then-done-places
 returns-then-done-places c =
     let d = c.steps-done.ensures in record {
-      planned = planned_refused _ 9 (omega arith) c.refused-then-done-places.ensures
+      planned = planned_refused _ ShortList refl
           (λ lent l. settled_nine c.requires.0 d c.if-done-limit.false lent (omega (arith, c.if-done-places.true)));
       work_len = (d.work_size, d.next_size);
     }
@@ -28,4 +30,4 @@ lower-requires c =
 
 pub returns : goal.returns
 returns c =
-    let d = c.steps-done.ensures in record { planned = planned_settled c.requires.0 d c.if-done-limit.false _ c.lower.ensures.q_after c.lower.ensures.table_len _ _ c.if-done-places.false refl refl refl refl refl refl; work_len = (d.work_size, c.lower.ensures.table_len) }
+    let d = c.steps-done.ensures in record { planned = accepts _ refl (accepted_settled c.requires.0 d c.if-done-limit.false _ c.lower.ensures.q_after c.lower.ensures.table_len _ _ c.if-done-places.false refl refl refl refl refl); work_len = (d.work_size, c.lower.ensures.table_len) }
