@@ -10,7 +10,7 @@ const K40: u32 = 0x8f1bbcdc;
 
 const K60: u32 = 0xca62c1d6;
 
-// K_t.
+// The standard's K_t, by its name: a function of t, as there.
 pub fn k(t: usize) -> u32
     ensures { result ≡ K t }
 {

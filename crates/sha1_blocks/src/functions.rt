@@ -7,7 +7,7 @@ pub fn rotl(n: u32, x: u32) -> u32
     requires { (1 ≤ n) × (n < 32) }
     ensures { result ≡ ROTL n x }
 {
-    (x << n) | (x >> (32 - n))
+    x.rotate_left(n)
 }
 
 pub fn ch(x: u32, y: u32, z: u32) -> u32
@@ -28,7 +28,7 @@ pub fn maj(x: u32, y: u32, z: u32) -> u32
     (x & y) ^ (x & z) ^ (y & z)
 }
 
-// f_t.
+// The standard's f_t, by its name: a function of t, as there.
 pub fn f(t: usize, x: u32, y: u32, z: u32) -> u32
     ensures { result ≡ f t x y z }
 {

@@ -28,14 +28,8 @@ impl Hash {
     pub fn new() -> Self
         ensures { result ≡ Fips.initial }
     {
-        let h = Self::INITIAL;
-        Self {
-            h0: h[0],
-            h1: h[1],
-            h2: h[2],
-            h3: h[3],
-            h4: h[4],
-        }
+        let [h0, h1, h2, h3, h4] = Self::INITIAL;
+        Self { h0, h1, h2, h3, h4 }
     }
 }
 

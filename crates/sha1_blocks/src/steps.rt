@@ -6,7 +6,6 @@ ghost use Rattle.sha1_blocks.specs.InPlace.{extended};
 use crate::constants::k;
 use crate::functions::{f, rotl};
 use crate::{Hash, Variables};
-use std::num::wrapping_add_u32;
 
 // Step 1: prepare the message schedule. W_0 to W_15 are the block's words, m; W_16 to W_79 are formed from those before.
 fn schedule(m: &[u32; 16]) -> [u32; 80]
@@ -14,11 +13,7 @@ fn schedule(m: &[u32; 16]) -> [u32; 80]
     ensures { result ≡ Fips.schedule m.now 64 }
 {
     let mut w = [0u32; 80];
-    let mut t = 0;
-    while t < 16 {
-        w[t] = m[t];
-        t += 1;
-    }
+    w[..16].copy_from_slice(m);
     extend(&mut w, 16);
     extend(&mut w, 32);
     extend(&mut w, 48);
@@ -33,11 +28,8 @@ fn extend(w: &mut [u32; 80], first: usize)
     ensures words { w.new ≡ extended w.old first 16 }
     ensures eighty { length w.new ≡ 80 }
 {
-    let end = first + 16;
-    let mut t = first;
-    while t < end {
+    for t in first..first + 16 {
         w[t] = rotl(1, w[t - 3] ^ w[t - 8] ^ w[t - 14] ^ w[t - 16]);
-        t += 1;
     }
 }
 
@@ -70,12 +62,9 @@ fn twenty(w: &[u32; 80], start: Variables, first: usize) -> Variables
     requires { first ≤ 60 }
     ensures { result ≡ Fips.rounds w.now start first 20 }
 {
-    let end = first + 20;
     let mut v = start;
-    let mut t = first;
-    while t < end {
+    for t in first..first + 20 {
         v = round(v, t, w[t]);
-        t += 1;
     }
     v
 }
@@ -84,11 +73,11 @@ fn twenty(w: &[u32; 80], start: Variables, first: usize) -> Variables
 fn round(mut v: Variables, t: usize, word: u32) -> Variables
     ensures { result ≡ Fips.round t word v }
 {
-    let mut sum = rotl(5, v.a);
-    sum = wrapping_add_u32(sum, f(t, v.b, v.c, v.d));
-    sum = wrapping_add_u32(sum, v.e);
-    sum = wrapping_add_u32(sum, k(t));
-    sum = wrapping_add_u32(sum, word);
+    let sum = rotl(5, v.a)
+        .wrapping_add(f(t, v.b, v.c, v.d))
+        .wrapping_add(v.e)
+        .wrapping_add(k(t))
+        .wrapping_add(word);
     v.e = v.d;
     v.d = v.c;
     v.c = rotl(30, v.b);
@@ -102,11 +91,11 @@ fn intermediate(v: Variables, h: Hash) -> Hash
     ensures { result ≡ Fips.intermediate v h }
 {
     Hash {
-        h0: wrapping_add_u32(v.a, h.h0),
-        h1: wrapping_add_u32(v.b, h.h1),
-        h2: wrapping_add_u32(v.c, h.h2),
-        h3: wrapping_add_u32(v.d, h.h3),
-        h4: wrapping_add_u32(v.e, h.h4),
+        h0: v.a.wrapping_add(h.h0),
+        h1: v.b.wrapping_add(h.h1),
+        h2: v.c.wrapping_add(h.h2),
+        h3: v.d.wrapping_add(h.h3),
+        h4: v.e.wrapping_add(h.h4),
     }
 }
 

@@ -6,7 +6,7 @@ use Rattle.sha1_blocks.proofs.steps.extend.Goals as goal
 pub loop-t-init : goal.loop-t-init
 unfolding extended
 loop-t-init c =
-    let e : c.args.first - c.args.first ≡ 0 = omega arith in (omega arith, omega arith, c.requires.0, rw e)
+    let e : c.args.first - c.args.first ≡ 0 = omega arith in (c.requires.0, rw e)
 
 pub loop-t-preserved : goal.loop-t-preserved
 unfolding extended
@@ -15,8 +15,8 @@ loop-t-preserved c =
     let first = c.args.first in
     let n : turn.t + 1 - first ≡ suc (turn.t - first) = omega arith in
     let p : first + (turn.t - first) ≡ turn.t = omega arith in
-    (omega arith, omega arith, length-set turn.w turn.t _ ∙ turn.invariant.2, rw (n, p, ← turn.invariant.3, c.rotl.ensures))
+    (length-set turn.w turn.t _ ∙ turn.invariant.0, rw (n, p, ← turn.invariant.1, c.rotl.ensures))
 
 pub returns : goal.returns
 returns c =
-    let e : c.loop-t.t - c.args.first ≡ 16 = omega arith in record { words = rw e at c.loop-t.invariant.3; eighty = c.loop-t.invariant.2 }
+    let e : c.loop-t.t - c.args.first ≡ 16 = omega arith in record { words = rw e at c.loop-t.invariant.1; eighty = c.loop-t.invariant.0 }

@@ -6,7 +6,7 @@ use Rattle.sha1_blocks.proofs.steps.twenty.Goals as goal
 pub loop-t-init : goal.loop-t-init
 unfolding rounds
 loop-t-init c =
-    let e : c.args.first - c.args.first ≡ 0 = omega arith in (omega arith, omega arith, rw e)
+    let e : c.args.first - c.args.first ≡ 0 = omega arith in rw e
 
 pub loop-t-preserved : goal.loop-t-preserved
 unfolding rounds
@@ -15,8 +15,8 @@ loop-t-preserved c =
     let first = c.args.first in
     let n : turn.t + 1 - first ≡ suc (turn.t - first) = omega arith in
     let p : first + (turn.t - first) ≡ turn.t = omega arith in
-    (omega arith, omega arith, rw (n, p, ← turn.invariant.2) c.round-v.ensures)
+    rw (n, p, ← turn.invariant) c.round-v.ensures
 
 pub returns : goal.returns
 returns c =
-    let e : c.loop-t.t - c.args.first ≡ 20 = omega arith in rw e at c.loop-t.invariant.2
+    let e : c.loop-t.t - c.args.first ≡ 20 = omega arith in rw e at c.loop-t.invariant
