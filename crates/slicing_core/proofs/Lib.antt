@@ -1,5 +1,4 @@
 pub mod Rows
-pub mod FilledArrays
 pub mod DeviceRows
 pub mod OwnerRows
 pub mod Cutting

@@ -12,7 +12,7 @@ pub sum-requires-clause-fits : goal.sum-requires-clause-fits
 sum-requires-clause-fits c =
     let args = c.args in
     let fits : sum (take args.n args.capacities.now) < 18446744073709551616 =
-        omega (arith, capacities_taken args.ids.now args.capacities.now args.n (omega arith), sum_most args.ids.now args.capacities.now args.n c.requires.1 c.requires.0) in
+    omega (arith, capacities_taken args.ids.now args.capacities.now args.n (omega arith), sum_most args.ids.now args.capacities.now args.n c.requires.1 c.requires.0) in
     search rules
 
 pub returns : goal.returns

@@ -16,9 +16,9 @@ pub overflow_sub-left : goal.overflow_sub-left
 overflow_sub-left c =
     let args = c.args in
     omega (
-        arith,
-        floors_step args.range args.c args.ids.now args.capacities.now c.loop-i.i args.n c.loop-i-test.true,
-        floors_most args.range args.c args.ids.now args.capacities.now args.n c.requires.c_value.0 c.requires.c_value.1
+      arith,
+      floors_step args.range args.c args.ids.now args.capacities.now c.loop-i.i args.n c.loop-i-test.true,
+      floors_most args.range args.c args.ids.now args.capacities.now args.n c.requires.c_value.0 c.requires.c_value.1,
     )
 
 pub loop-i-preserved : goal.loop-i-preserved
