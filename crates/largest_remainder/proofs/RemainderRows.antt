@@ -1,9 +1,8 @@
 -- The parts of a share by largest remainder on rows of devices.
 --
--- rank: rank_next, rank_end (a loop over the rows), rank_rows (it is the rules')
+-- rank: rank_step (a loop over the rows), rank_rows (it is the rules')
 -- share: floor_most, share_more, share_same, rows_shares
-use mathlib.Core.Path.{◌≡◌, refl, ap}
-use mathlib.Core.Bool.{Bool, true, false, cond}
+use mathlib.Core.Path.{◌≡◌, refl}
 use mathlib.Core.List.{List}
 use Prim.Native.Nat.{ℕ, zero, suc, ◌+◌, ◌*◌, ◌-◌, ◌%◌, ◌≤◌, ◌<◌}
 use native.Mathlib.Nat.{div-le_self, le_trans}
@@ -24,21 +23,11 @@ use Rattle.largest_remainder.specs.Remainders.{Remained, rank}
 
 -- ---- the rank
 
-rank_step : (rems ids : List ℕ) (p i n : ℕ) → i < n
+pub rank_step : (rems ids : List ℕ) (p i n : ℕ) → i < n
     → rank rems ids p i (n - i) ≡ one (lex (at rems i) (at ids i) (at rems p) (at ids p)) + rank rems ids p (i + 1) (n - (i + 1))
 rank_step rems ids p i n h =
     let e : n - i ≡ suc (n - (i + 1)) = omega arith in
     rw (e, add-one i)
-
--- of b rows counted so far, b' when row i is passed
-pub rank_next : (rems ids : List ℕ) (p i n : ℕ) {b b' r : ℕ} → i < n → b ≤ i → b + rank rems ids p i (n - i) ≡ r
-    → (t : Bool) → lex (at rems i) (at ids i) (at rems p) (at ids p) ≡ t → b' ≡ cond t (b + 1) b
-    → (i + 1 ≤ n) × (b' ≤ i + 1) × (b' + rank rems ids p (i + 1) (n - (i + 1)) ≡ r)
-rank_next rems ids p i n h l e true k g = omega (arith, rank_step rems ids p i n h, ap one k)
-rank_next rems ids p i n h l e false k g = omega (arith, rank_step rems ids p i n h, ap one k)
-
-pub rank_end : (rems ids : List ℕ) (p i n : ℕ) → n ≤ i → rank rems ids p i (n - i) ≡ 0
-rank_end rems ids p i n h = let e : n - i ≡ 0 = omega arith in rw e
 
 rank_rows : (R C : ℕ) (ids caps rems : List ℕ) (p i m : ℕ) → at rems p ≡ R * at caps p % C → ((k : ℕ) → k < i + m → at rems k ≡ R * at caps k % C)
     → rank rems ids p i m ≡ Rule.rank (before R C) (device_rows ids caps i m) (device (at ids p) (at caps p))

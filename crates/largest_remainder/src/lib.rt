@@ -27,10 +27,8 @@ fn remainders(
     ensures { Remained range capacities.now n c result }
 {
     let mut into = [0u64; MAX_DEVICES];
-    let mut i = 0;
-    while i < n {
+    for i in 0..n {
         into[i] = range * capacities[i] % c;
-        i += 1;
     }
     into
 }
@@ -44,19 +42,11 @@ fn rank(remainders: &[u64; MAX_DEVICES], ids: &[u64; MAX_DEVICES], n: usize, p: 
     let own = remainders[p];
     let id = ids[p];
     let mut before = 0;
-    let mut i = 0;
-    while i < n {
+    for i in 0..n {
         let other = remainders[i];
-        if own < other {
+        if own < other || (own == other && ids[i] < id) {
             before += 1;
-        } else {
-            if own == other {
-                if ids[i] < id {
-                    before += 1;
-                }
-            }
         }
-        i += 1;
     }
     before
 }
@@ -73,18 +63,13 @@ pub fn shares(
     ensures result_len { length result ≡ 256 }
 {
     let c = sum(capacities, ids, n);
-    let mut quotas = [0u64; MAX_DEVICES];
-    let leftover = floors(&mut quotas, range, capacities, ids, n, c);
+    let mut points = [0u64; MAX_DEVICES];
+    let leftover = floors(&mut points, range, capacities, ids, n, c);
     let left = remainders(range, capacities, ids, n, c);
-    let mut into = [0u64; MAX_DEVICES];
-    let mut i = 0;
-    while i < n {
+    for i in 0..n {
         if rank(&left, ids, n, i) < leftover {
-            into[i] = quotas[i] + 1;
-        } else {
-            into[i] = quotas[i];
+            points[i] += 1;
         }
-        i += 1;
     }
-    into
+    points
 }

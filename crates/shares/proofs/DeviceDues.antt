@@ -1,6 +1,6 @@
 -- What rows of devices are due, rounded down: a loop over the rows, and all of them within the range.
 --
--- floors: floors_step, floors_end (the rows left), floors_most, floor_one (one of them)
+-- floors: floors_step (the rows left), floors_most, floor_one (one of them)
 use mathlib.Core.Path.{◌≡◌, ap}
 use mathlib.Core.List.{List}
 use mathlib.Core.Logic.{inl, inr}
@@ -11,15 +11,12 @@ use Rattle.slicing.specs.Devices.{capacities}
 use Rattle.slicing.specs.Dues.{floors}
 use Rattle.slicing.proofs.Dues.{floors_le}
 use Rattle.slicing_core.specs.Rows.{at, device_rows}
-use Rattle.slicing_core.proofs.Rows.{device_rows_step, device_rows_end}
+use Rattle.slicing_core.proofs.Rows.{device_rows_step}
 
 module _ (R C : ℕ) (ids caps : List ℕ) where
   pub floors_step : (i n : ℕ) → i < n
       → floors R C (device_rows ids caps i (n - i)) ≡ R * at caps i / C + floors R C (device_rows ids caps (i + 1) (n - (i + 1)))
   floors_step i n l = ap (floors R C) (device_rows_step ids caps i n l)
-
-  pub floors_end : (i n : ℕ) → n ≤ i → floors R C (device_rows ids caps i (n - i)) ≡ 0
-  floors_end i n l = ap (floors R C) (device_rows_end ids caps i n l)
 
   pub floors_most : (n : ℕ) → C ≡ capacities (device_rows ids caps 0 n) → 1 ≤ C → floors R C (device_rows ids caps 0 n) ≤ R
   floors_most n e h = rw e (floors_le R (device_rows ids caps 0 n) (omega arith))

@@ -115,10 +115,9 @@ module _ {R n left : ℕ} {ids caps p : List ℕ} where
       }
 
   module _ (r : Rising 0 (device_rows ids caps 0 n)) (d : Dealt R ids caps n p left) where
-    pub dealt_give : {w : ℕ} → n ≤ 256 → 0 < left → w < n → ((i : ℕ) → i < n → Ahead p caps w i)
-        → Dealt R ids caps n (set p w (at p w + 1)) (left - 1)
-    dealt_give {w} b l s h =
-        let e : left ≡ suc (left - 1) = omega arith in
+    pub dealt_give : {w rest : ℕ} → n ≤ 256 → left ≡ suc rest → w < n → ((i : ℕ) → i < n → Ahead p caps w i)
+        → Dealt R ids caps n (set p w (at p w + 1)) rest
+    dealt_give {w} {rest} b e s h =
         let z : w < length p = omega (arith, d.size) in
         record {
           size = length-set p w (at p w + 1) ∙ d.size;
@@ -126,7 +125,7 @@ module _ {R n left : ℕ} {ids caps p : List ℕ} where
             | yes x ↦ rw x (omega (arith, get_or-set_same p w (at p w + 1) 0 z, d.most w s))
             | no x ↦ omega (arith, get_or-set_other p w i (at p w + 1) 0 x, d.most i m)
           ];
-          rest = ap (give_all (left - 1)) (sym (give_rows p ids caps n w (ascending_rising ids caps n r) s h z n refl)) ∙ rw e at d.rest;
+          rest = ap (give_all rest) (sym (give_rows p ids caps n w (ascending_rising ids caps n r) s h z n refl)) ∙ rw e at d.rest;
         }
 
     pub dealt_ready : R ≤ max_range → 1 ≤ n → n ≤ 256 → Ready p caps n

@@ -1,22 +1,19 @@
 -- Matches played in a tournament.
 --
--- Ahead: ahead_own, ahead_not (by the cross products), ahead_trans
+-- Ahead: ahead_own, ahead_trans
 -- First: first_leaf, first_match (the winner of a match)
--- Won: product_most (the cross products fit 64 bits), won_first, won_second
 -- Tree: tree_leaves, tree_close; tree_small (who plays a match), tree_play (its winner is stored); tree_raise (a row has a point more); root_row,
 --   root_ahead (the row at the root is ahead of all)
-use mathlib.Core.Path.{◌≡◌, refl, sym, ap, ◌∙◌, subst}
+use mathlib.Core.Path.{◌≡◌, sym, ap, ◌∙◌, subst}
 use mathlib.Core.List.{List}
 use mathlib.Core.Logic.{inl, inr}
 use Prim.Native.Nat.{ℕ, suc, ◌+◌, ◌*◌, ◌-◌, ◌/◌, ◌≤◌, ◌<◌}
 use native.Mathlib.Decide.{ℕ_discrete}
-use native.Mathlib.Nat.{le_refl, mul-le-mul}
+use native.Mathlib.Nat.{le_refl}
 use native.Mathlib.Omega.{arith}
 use lib.ListN.{length, set, length-set}
 use lib.Seq.{get_or-set_same, get_or-set_other}
 use Rattle.slicing.specs.Devices.{device}
-use Rattle.slicing.specs.Limits.{max_range, max_capacity}
-use Rattle.slicing.proofs.Lex.{lex_not}
 use Rattle.slicing.proofs.Quotients.{before_weaken, before_trans, before_own_not}
 use Rattle.slicing_core.specs.Rows.{at}
 use Rattle.shares.specs.Tournament.{Ahead, Small, Ready, Won, Leaves, Above, here, First, Tree, Tournament, Raised}
@@ -27,10 +24,6 @@ module _ (p caps : List ℕ) where
 
   ahead_own : (i : ℕ) → Ahead p caps i i
   ahead_own i = before_own_not (device i (at caps i)) (suc (at p i)) (suc (at p i)) (le_refl (suc (at p i)))
-
-  ahead_not : (i j : ℕ) → at caps j * (at p i + 1) ≤ at caps i * (at p j + 1)
-      → (at caps i * (at p j + 1) ≡ at caps j * (at p i + 1) → i ≤ j) → Ahead p caps i j
-  ahead_not i j h k = lex_not (at caps j * suc (at p i)) j (at caps i * suc (at p j)) i (omega arith) (λ e. k (omega arith))
 
   -- ---- the row that goes first
 
@@ -66,20 +59,6 @@ module _ (p caps : List ℕ) where
 
         up : (j i : ℕ) → j / 2 ≡ k → Above j (n + i) → Above k (n + i)
         up j i e h = rw (← e) (above_up h)
-
--- ---- one match
-
-module _ {p caps : List ℕ} {a b : ℕ} where
-  pub product_most : Small p caps a → Small p caps b → at caps a * (at p b + 1) ≤ max_capacity * (max_range + 1)
-  product_most h l = mul-le-mul {m₂ = max_range + 1} h.most (omega (arith, l.points))
-
-  pub won_first : at caps b * (at p a + 1) ≤ at caps a * (at p b + 1) → (at caps a * (at p b + 1) ≡ at caps b * (at p a + 1) → a ≤ b)
-      → Won p caps a b a
-  won_first h k = record { either = inl refl; first = ahead_own p caps a; second = ahead_not p caps a b h k }
-
-  pub won_second : at caps a * (at p b + 1) ≤ at caps b * (at p a + 1) → (at caps b * (at p a + 1) ≡ at caps a * (at p b + 1) → b ≤ a)
-      → Won p caps a b b
-  won_second h k = record { either = inr refl; first = ahead_not p caps b a h k; second = ahead_own p caps b }
 
 -- ---- trees
 

@@ -11,11 +11,5 @@ pub fn sum(capacities: &[u64; MAX_DEVICES], ids: &[u64; MAX_DEVICES], n: usize) 
     requires { (n ≤ 256) × Rising 0 (device_rows ids.now capacities.now 0 n) }
     ensures { result ≡ capacities_of (device_rows ids.now capacities.now 0 n) }
 {
-    let mut c = 0;
-    let mut i = 0;
-    while i < n {
-        c += capacities[i];
-        i += 1;
-    }
-    c
+    capacities[..n].iter().sum()
 }

@@ -24,12 +24,10 @@ pub fn floors(
     ensures { Floored range ids.now capacities.now n c into.new result }
 {
     let mut left = range;
-    let mut i = 0;
-    while i < n {
+    for i in 0..n {
         let quota = range * capacities[i] / c;
         into[i] = quota;
         left -= quota;
-        i += 1;
     }
     left
 }

@@ -24,15 +24,14 @@ pub fn shares(
 {
     let c = sum(capacities, ids, n);
     let mut points = [0u64; MAX_DEVICES];
-    let mut left = floors(&mut points, range, capacities, ids, n, c);
+    let left = floors(&mut points, range, capacities, ids, n, c);
     let mut tree = [0usize; NODES];
     leaves(&mut tree, n);
     play(&mut tree, &points, capacities, n);
-    while 0 < left {
+    for _ in 0..left {
         let w = tree[1];
         points[w] += 1;
         replay(&mut tree, &points, capacities, n, w);
-        left -= 1;
     }
     points
 }

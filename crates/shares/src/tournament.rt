@@ -17,16 +17,7 @@ fn winner(points: &[u64; MAX_DEVICES], capacities: &[u64; MAX_DEVICES], a: usize
 {
     let x = capacities[a] * (points[b] + 1);
     let y = capacities[b] * (points[a] + 1);
-    if y < x {
-        return a;
-    }
-    if x < y {
-        return b;
-    }
-    if b < a {
-        return b;
-    }
-    a
+    if y < x || (y == x && a < b) { a } else { b }
 }
 
 // Puts the n rows at their leaves.
@@ -34,10 +25,8 @@ pub fn leaves(tree: &mut [usize; NODES], n: usize)
     requires { (n ≤ 256) × (length tree.old ≡ 512) }
     ensures { Leaves n tree.new }
 {
-    let mut i = 0;
-    while i < n {
+    for i in 0..n {
         tree[n + i] = i;
-        i += 1;
     }
 }
 
@@ -51,10 +40,8 @@ pub fn play(
     requires { Ready points.now capacities.now n × Leaves n tree.old }
     ensures { Tournament points.now capacities.now n tree.new }
 {
-    let mut k = n - 1;
-    while 0 < k {
+    for k in (1..n).rev() {
         tree[k] = winner(points, capacities, tree[2 * k], tree[2 * k + 1]);
-        k -= 1;
     }
 }
 
@@ -69,9 +56,10 @@ pub fn replay(
     requires { Ready points.now capacities.now n × Raised points.now capacities.now n w tree.old }
     ensures { Tournament points.now capacities.now n tree.new }
 {
+    // A while: each node up is half of the one below.
     let mut k = (n + w) / 2;
     while 0 < k {
         tree[k] = winner(points, capacities, tree[2 * k], tree[2 * k + 1]);
-        k = k / 2;
+        k /= 2;
     }
 }

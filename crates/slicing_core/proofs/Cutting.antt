@@ -1,6 +1,6 @@
 -- Laws of a cut.
 --
--- CutTo: cut_to_tests (a cut by its tests), cut_to_whole, cut_to_gap, cut_to_pieces (at most two pieces have points)
+-- CutTo: cut_to_whole, cut_to_gap, cut_to_pieces (at most two pieces have points)
 -- walk: less_set, walk_cut (an interval's pieces, and the walk that goes on with what is left to release)
 use mathlib.Core.Path.{◌≡◌, refl, fun_ext}
 use mathlib.Core.Bool.{Bool, true, false}
@@ -17,12 +17,6 @@ use Rattle.slicing.proofs.Walk.{cut_whole, cut_gap}
 use Rattle.slicing_core.specs.Rows.{at}
 use Rattle.slicing_core.specs.declared.cuts.Cut.{Cut}
 use Rattle.slicing_core.specs.Stages.{side, CutTo}
-
-pub cut_to_tests : (r n : ℕ) (flag touch a b t f : Bool) (c : Cut) → eqb r 0 ≡ a → leb n r ≡ b → touch ≡ t → flag ≡ f
-    → (c.front ≡ (cut_by r n a b t (side f)).front) × (c.gap ≡ (cut_by r n a b t (side f)).gap) × (c.back ≡ (cut_by r n a b t (side f)).back)
-    × (side c.flag ≡ (cut_by r n a b t (side f)).flag) × (c.touch ≡ (cut_by r n a b t (side f)).touch)
-    → CutTo r n (side flag) touch c
-cut_to_tests r n flag touch a b t f c ha hb ht hf h = record { front = cc; gap = cc; back = cc; flag = cc; touch = cc }
 
 cut_pieces : (r n : ℕ) (flag : Side) (touch : Bool)
     → min 1 (cut r n flag touch).front + min 1 (cut r n flag touch).gap + min 1 (cut r n flag touch).back ≤ 2

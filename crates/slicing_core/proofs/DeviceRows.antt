@@ -1,6 +1,6 @@
 -- Laws of rows of devices: what a caller needs to go from arrays to the rules' list of devices.
 --
--- Rising: rising_row, row_rising, none_rising (a loop over the rows); within_rising, ascending_rising, below_rising, capacities_rising
+-- Rising: rising_row, row_rising (a loop over the rows); within_rising, ascending_rising, below_rising, capacities_rising
 -- present: position_present, position_absent; capacity_of: capacity_of_row
 -- insert: insert_rows; delete: delete_rows; update: update_rows
 use mathlib.Core.Path.{◌≡◌, refl, sym, ap, ◌∙◌}
@@ -19,7 +19,7 @@ use Rattle.slicing.specs.Devices.{device, present, capacity_of, insert, delete, 
 use Rattle.slicing.proofs.Limits.{capacity_size}
 use Rattle.slicing_core.specs.Rows.{at, device_rows}
 use Rattle.slicing_core.specs.Stages.{Below, Ascending, Position, Inserted, Deleted}
-use Rattle.slicing_core.proofs.Rows.{device_rows_step, device_rows_end}
+use Rattle.slicing_core.proofs.Rows.{device_rows_step}
 
 -- ---- Rising over the rows left
 
@@ -31,9 +31,6 @@ module _ (a : ℕ) (d c : List ℕ) (i n : ℕ) where
   pub row_rising : i < n → Within a (device (at d i) (at c i)) → Rising (at d i) (device_rows d c (i + 1) (n - (i + 1)))
       → Rising a (device_rows d c i (n - i))
   row_rising l w h = rw (device_rows_step d c i n l) (w, h)
-
-  pub none_rising : n ≤ i → Rising a (device_rows d c i (n - i))
-  none_rising l = rw (device_rows_end d c i n l) tt
 
 -- ---- rows that rise, place by place
 

@@ -1,6 +1,4 @@
 pub mod Rows
-pub mod FilledArrays
-pub mod Shifts
 pub mod DeviceRows
 pub mod OwnerRows
 pub mod Cutting

@@ -12,21 +12,12 @@ pub fn rising(ids: &[u64; MAX_DEVICES], capacities: &[u64; MAX_DEVICES], n: usiz
     ensures { Decides result (Rising 0 (device_rows ids.now capacities.now 0 n)) }
 {
     let mut last = 0;
-    let mut i = 0;
-    while i < n {
+    for i in 0..n {
         let id = ids[i];
-        let capacity = capacities[i];
-        if id <= last {
-            return false;
-        }
-        if id > MAX_ID {
-            return false;
-        }
-        if outside(MAX_CAPACITY, capacity) {
+        if id <= last || id > MAX_ID || outside(MAX_CAPACITY, capacities[i]) {
             return false;
         }
         last = id;
-        i += 1;
     }
     true
 }
@@ -37,12 +28,8 @@ pub fn insert_row(rows: &[u64; MAX_DEVICES], n: usize, p: usize, value: u64) -> 
     ensures { Inserted rows.now n p value result }
 {
     let mut into = *rows;
+    into.copy_within(p..n, p + 1);
     into[p] = value;
-    let mut i = p;
-    while i < n {
-        into[i + 1] = rows[i];
-        i += 1;
-    }
     into
 }
 
@@ -52,10 +39,6 @@ pub fn delete_row(rows: &[u64; MAX_DEVICES], n: usize, p: usize) -> [u64; MAX_DE
     ensures { Deleted rows.now n p result }
 {
     let mut into = *rows;
-    let mut i = p + 1;
-    while i < n {
-        into[i - 1] = rows[i];
-        i += 1;
-    }
+    into.copy_within(p + 1..n, p);
     into
 }

@@ -6,8 +6,4 @@ use Rattle.largest_remainder.proofs.rank.Given as goal
 
 abbrev pub invariant-loop-i : goal.invariant-loop-i
 invariant-loop-i l =
-    (l.i ≤ l.n) × (l.before ≤ l.i) × (l.before + rank_of l.remainders l.ids l.p l.i (l.n - l.i) ≡ rank_of l.remainders l.ids l.p 0 l.n)
-
-abbrev pub decreases-loop-i : goal.decreases-loop-i
-decreases-loop-i l =
-    l.n - l.i
+    (l.before ≤ l.i) × (l.before + rank_of l.remainders l.ids l.p l.i (l.n - l.i) ≡ rank_of l.remainders l.ids l.p 0 l.n)

@@ -2,7 +2,7 @@
 use Rattle.slicing.specs.ShareRule.{shares}
 use Rattle.shares.proofs.shares.Goals as goal
 
-pub returns : goal.returns
+pub returns-clause-shares : goal.returns-clause-shares
 unfolding shares
-returns c =
-    record { shares = c.shares.ensures.shares; result_len = c.shares.ensures.result_len }
+returns-clause-shares c =
+    c.shares.ensures.shares

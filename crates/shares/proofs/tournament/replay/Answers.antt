@@ -6,10 +6,6 @@ use Rattle.shares.proofs.Matches.{tree_play, tree_close, tree_small}
 use Rattle.shares.proofs.Nodes.{above_le, above_next}
 use Rattle.shares.proofs.tournament.replay.Goals as goal
 
-pub loop-k-init : goal.loop-k-init
-loop-k-init c =
-    (omega arith, c.requires.1.1)
-
 pub winner-requires : goal.winner-requires
 winner-requires c =
     let pass = c.loop-k in

@@ -1,14 +1,10 @@
 -- `slicing_core::devices::rising` meets its contract. The loop's invariant: the rows left rise from `last` on exactly if all rows rise.
-use Prim.Native.Nat.{◌-◌, ◌≤◌}
+use mathlib.Core.Logic.{◌↔◌}
+use Prim.Native.Nat.{◌-◌}
 use Rattle.slicing.specs.Devices.{Rising}
 use Rattle.slicing_core.specs.Rows.{device_rows}
 use Rattle.slicing_core.proofs.devices.rising.Given as goal
 
 abbrev pub invariant-loop-i : goal.invariant-loop-i
 invariant-loop-i l =
-    (l.i ≤ l.n) × (Rising l.last (device_rows l.ids l.capacities l.i (l.n - l.i)) → Rising 0 (device_rows l.ids l.capacities 0 l.n))
-    × (Rising 0 (device_rows l.ids l.capacities 0 l.n) → Rising l.last (device_rows l.ids l.capacities l.i (l.n - l.i)))
-
-abbrev pub decreases-loop-i : goal.decreases-loop-i
-decreases-loop-i l =
-    l.n - l.i
+    Rising l.last (device_rows l.ids l.capacities l.i (l.n - l.i)) ↔ Rising 0 (device_rows l.ids l.capacities 0 l.n)
