@@ -1,5 +1,4 @@
 -- `plans::labels::lower` meets its contract. The loop's invariant: the runs passed are renamed, and the others stand as they did.
-use Prim.Native.Nat.{◌-◌}
 use Rattle.plans.specs.Labels.{lowered}
 use Rattle.plans.proofs.LabelSteps.{InPlace}
 use Rattle.plans.proofs.labels.lower.Given as goal
@@ -7,7 +6,3 @@ use Rattle.plans.proofs.labels.lower.Given as goal
 abbrev pub invariant-loop-i : goal.invariant-loop-i
 invariant-loop-i l =
     InPlace (lowered l.p) l.initial.table l.table l.q l.i
-
-abbrev pub decreases-loop-i : goal.decreases-loop-i
-decreases-loop-i l =
-    l.q - l.i

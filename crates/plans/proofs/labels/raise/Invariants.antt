@@ -1,5 +1,4 @@
 -- `plans::labels::raise` meets its contract. The loop's invariant: the runs passed are renamed.
-use Prim.Native.Nat.{◌-◌}
 use Rattle.plans.specs.Labels.{raised}
 use Rattle.plans.proofs.LabelSteps.{Renamed}
 use Rattle.plans.proofs.labels.raise.Given as goal
@@ -7,7 +6,3 @@ use Rattle.plans.proofs.labels.raise.Given as goal
 abbrev pub invariant-loop-i : goal.invariant-loop-i
 invariant-loop-i l =
     Renamed (raised l.p) l.table l.into l.q l.i
-
-abbrev pub decreases-loop-i : goal.decreases-loop-i
-decreases-loop-i l =
-    l.q - l.i
