@@ -5,8 +5,8 @@
 --
 -- labels: turn_join, turn_self, differ_turn, coalesced_turn
 -- given: given_none, given_whole, given_part
--- Filling: filling_none, filling_more (a row of the queue is left while a taken piece is), filling_small, label_fits and
--- filling_push (what `push` asks), filling_empty, filling_kept, filling_whole, filling_part, filling_end
+-- Filling: filling_none, filling_more (a row of the queue is left while a taken piece is), filling_small, filling_push and
+-- filling_turn (what `push` asks), filling_empty, filling_kept, filling_whole, filling_part, filling_end
 use mathlib.Core.Path.{◌≡◌, refl, sym, ap, ◌∙◌}
 use mathlib.Core.Bool.{Bool, true, false, ◌&&◌}
 use mathlib.Core.List.{List, [], ◌∷◌, ◌++◌, map, map-append, append_assoc, append-nil}
@@ -225,9 +225,17 @@ module _ {ts : List (Run Turn)} {p n : ℕ} {pieces queue turns : List ℕ} {cou
               let k : n ≤ j = ltb-false j n e in
               absurd (z (omega (arith, rw (runs_end queue j n k) at enough_here)))
 
-      module _ (l : j < n) where
-        pub label_fits : old * 256 + row < 65536
+      module _ (z : size ≡ 0 → ⊥) where
+        l : j < n
+        l = filling_more z
+
+        label_fits : old * 256 + row < 65536
         label_fits = omega (arith, w.marked i h, w.queued j l)
+
+        -- what `push` asks of the turns of a taken piece
+        pub filling_turn : p + n ≤ room → (k : ℕ) → k ≤ size
+            → Held turns count (min 1 k) × (total (runs turns 0 count) + k < 2 ^ 48) × (old * 256 + row < 65536)
+        filling_turn c k d = filling_push c k (old * 256 + row) d label_fits
 
         turn_here : turn_of (old * 256 + row) ≡ (old ⟶ row)
         turn_here = turn_join old row (w.queued j l)
@@ -241,7 +249,7 @@ module _ {ts : List (Run Turn)} {p n : ℕ} {pieces queue turns : List ℕ} {cou
             (given_whole old row size need (pieces_of pieces (i + 1) (p - (i + 1))) (expand (runs queue (j + 1) (n - (j + 1)))) (omega arith)))
             (rw cut_marks (omega (arith, rw (runs_step queue j n l) at enough_here)))
             (omega (arith, ap total (runs_step pieces i p h), ap total cut_runs))
-            (length-set pieces i (at pieces i - need * 65536) ∙ w.piece_size) w.queue_size w.passed (omega arith) (omega arith)
+            (length-set pieces i (at pieces i - need * 65536) ∙ w.piece_size) w.queue_size w.passed (omega (arith, l)) (omega (arith, l))
             (labelled_set 512 pieces p i (at pieces i - need * 65536) (omega (arith, w.piece_size)) (less_label (at pieces i) need (omega arith)) w.marked)
             w.queued
           where
@@ -266,12 +274,12 @@ module _ {ts : List (Run Turn)} {p n : ℕ} {pieces queue turns : List ℕ} {cou
             (rw cut_runs (omega (arith, rw (runs_step queue j n l) at enough_here)))
             (ap total (runs_step pieces i p h))
             w.piece_size (length-set queue j (at queue j - size * 65536) ∙ w.queue_size) (omega arith) w.used (omega arith) w.marked
-            (labelled_set 256 queue n j (at queue j - size * 65536) (omega (arith, w.queue_size)) (less_label (at queue j) size (omega arith)) w.queued)
+            (labelled_set 256 queue n j (at queue j - size * 65536) (omega (arith, l, w.queue_size)) (less_label (at queue j) size (omega arith)) w.queued)
           where
             queue' : List ℕ
             queue' = set queue j (at queue j - size * 65536)
 
             cut_runs : runs queue' j (n - j) ≡ (need - size of row) ∷ runs queue (j + 1) (n - (j + 1))
             cut_runs =
-                runs_first_write queue j n (at queue j - size * 65536) l (omega (arith, w.queue_size))
+                runs_first_write queue j n (at queue j - size * 65536) l (omega (arith, l, w.queue_size))
                 ∙ rw (less_size (at queue j) size (omega arith), less_label (at queue j) size (omega arith))

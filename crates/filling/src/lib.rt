@@ -31,24 +31,26 @@ pub fn fill(
     let mut count = 0;
     let mut i = 0;
     let mut j = 0;
+    // A while: the piece and the device in need advance at different turns.
     while i < p {
         let size = pieces[i] / LABELS;
         let piece = pieces[i] % LABELS;
         if piece < TAKEN {
-            count = push(&mut *turns, count, size, piece * 257);
+            count = push(turns, count, size, piece * (ROWS + 1));
             i += 1;
         } else if size == 0 {
             i += 1;
         } else {
-            let need = queue[j] / LABELS;
-            let turn = (piece - TAKEN) * ROWS + queue[j] % LABELS;
+            let first = queue[j];
+            let need = first / LABELS;
+            let turn = (piece - TAKEN) * ROWS + first % LABELS;
             if need < size {
-                count = push(&mut *turns, count, need, turn);
-                pieces[i] = pieces[i] - need * LABELS;
+                count = push(turns, count, need, turn);
+                pieces[i] -= need * LABELS;
                 j += 1;
             } else {
-                count = push(&mut *turns, count, size, turn);
-                queue[j] = queue[j] - size * LABELS;
+                count = push(turns, count, size, turn);
+                queue[j] -= size * LABELS;
                 i += 1;
             }
         }

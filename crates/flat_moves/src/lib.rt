@@ -18,10 +18,7 @@ fn put_move(list: &mut [u64], place: usize, start: u64, size: u64, from: u64, to
     ensures { list.new ≡ take (4 * place) list.old ++ (start ∷ size ∷ from ∷ to ∷ []) ++ drop (4 * place + 4) list.old }
 {
     let i = 4 * place;
-    list[i] = start;
-    list[i + 1] = size;
-    list[i + 2] = from;
-    list[i + 3] = to;
+    list[i..i + 4].copy_from_slice(&[start, size, from, to]);
 }
 
 // Writes the moves of t turns, by rising start, their rows named by ids: the turns whose owner changes.
@@ -32,17 +29,15 @@ pub fn write_moves(turns: &[u64; ROOM], t: usize, names: &[u64; MAX_DEVICES], li
 {
     let mut count = 0;
     let mut start = 0;
-    let mut i = 0;
-    while i < t {
+    for i in 0..t {
         let size = turns[i] / LABELS;
         let turn = turns[i] % LABELS;
         let from = (turn / ROWS) as usize;
         let to = (turn % ROWS) as usize;
         if from != to {
-            put_move(&mut *list, count, start, size, names[from], names[to]);
+            put_move(list, count, start, size, names[from], names[to]);
             count += 1;
         }
         start += size;
-        i += 1;
     }
 }

@@ -48,12 +48,9 @@ pub fn push(into: &mut [u64; ROOM], n: usize, size: u64, label: u64) -> usize
     if size == 0 {
         return n;
     }
-    if n > 0 {
-        let last = into[n - 1];
-        if last % LABELS == label {
-            into[n - 1] = last + size * LABELS;
-            return n;
-        }
+    if n > 0 && into[n - 1] % LABELS == label {
+        into[n - 1] += size * LABELS;
+        return n;
     }
     into[n] = size * LABELS + label;
     n + 1

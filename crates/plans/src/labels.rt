@@ -2,21 +2,9 @@
 ghost use Rattle.std.specs.Prelude.{◌≡◌, ◌%◌, ◌≤◌, ◌<◌, length};
 ghost use Rattle.slicing.specs.Runs.{relabel};
 ghost use Rattle.packed_runs.specs.Words.{runs, room, Labelled};
-ghost use Rattle.plans.specs.Labels.{raised, lowered, Named};
+ghost use Rattle.plans.specs.Labels.{raised, lowered};
 
 use packed_runs::{LABELS, ROOM};
-
-// A run of a table in which a row comes in at `row`. That the run is below 2^64, so that its sum fits, is
-// known of a parameter, and not of a place of an array.
-fn raised_run(run: u64, row: u64) -> u64
-    requires { run % 65536 < 256 }
-    ensures { Named (raised row) run result }
-{
-    if run % LABELS < row {
-        return run;
-    }
-    run + 1
-}
 
 // Copies the q runs of a table, with the rows from p on raised by one: a row comes in at p. With p = 256
 // no row changes.
@@ -26,10 +14,9 @@ pub fn raise(table: &[u64; ROOM], q: usize, p: usize, into: &mut [u64; ROOM])
     ensures into_len { length into.new ≡ room }
 {
     let row = p as u64;
-    let mut i = 0;
-    while i < q {
-        into[i] = raised_run(table[i], row);
-        i += 1;
+    for i in 0..q {
+        let run = table[i];
+        into[i] = if run % LABELS < row { run } else { run + 1 };
     }
 }
 
@@ -40,13 +27,10 @@ pub fn lower(table: &mut [u64; ROOM], q: usize, p: usize)
     ensures table_len { length table.new ≡ room }
 {
     let row = p as u64;
-    let mut i = 0;
-    while i < q {
-        let run = table[i];
-        if run % LABELS > row {
-            table[i] = run - 1;
+    for run in table[..q].iter_mut() {
+        if *run % LABELS > row {
+            *run -= 1;
         }
-        i += 1;
     }
 }
 
@@ -56,9 +40,5 @@ pub fn renew(table: &mut [u64; ROOM], next: &[u64; ROOM], q: usize)
     ensures q_after { runs table.new 0 q ≡ runs next.now 0 q }
     ensures table_len { length table.new ≡ room }
 {
-    let mut i = 0;
-    while i < q {
-        table[i] = next[i];
-        i += 1;
-    }
+    table[..q].copy_from_slice(&next[..q]);
 }

@@ -1,42 +1,44 @@
--- The loop of `count_moves`: what it keeps, and its steps.
+-- The moves of turns, counted.
 --
---   Counted turns t count i     of t turns, i were passed, with so many moves among them
+--   moves w      whether the turn in the run w changes its owner
 --
--- Counted: counted_none, counted_on (a turn that changes nothing), counted_more, counted_end
-use mathlib.Core.Path.{◌≡◌, refl, sym, ap, ◌∙◌}
-use mathlib.Core.List.{List, [], ◌∷◌}
-use Prim.Native.Nat.{ℕ, ◌+◌, ◌/◌, ◌%◌, ◌≤◌, ◌<◌}
+-- moves: count_turns (the turns that do are the moves)
+use mathlib.Core.Path.{◌≡◌, refl}
+use mathlib.Core.Bool.{Bool, true, false, cond, not}
+use mathlib.Core.List.{List, ◌∷◌}
+use Prim.Native.Nat.{ℕ, zero, suc, ◌+◌, ◌/◌, ◌%◌, ◌≤◌, ◌<◌}
 use native.Mathlib.Omega.{arith}
-use lib.ListN.{length, length-append}
-use Rattle.slicing.specs.SixSteps.{Move, moves_from}
+use lib.Dec.{eqb}
+use lib.ListN.{length, take, drop}
+use lib.Seq.{drop-cons}
+use Rattle.std.specs.List.{count_by}
+use Rattle.std.proofs.lemmas.List.Sums.{sum_by-cons}
+use Rattle.slicing.specs.SixSteps.{Move, move, moves_from}
 use Rattle.slicing_core.specs.Rows.{at}
 use Rattle.packed_runs.specs.Words.{turns_of}
-use Rattle.six_steps.proofs.PassedTurns.{Passed, passed_none, passed_on, passed_more, passed_end}
 
-pub record Counted (turns : List ℕ) (t count i : ℕ) : Type 0 where
-  pub few : count ≤ i
-  pub moves : List Move
-  -- the point at which turn i begins
-  pub start : ℕ
-  pub passed : Passed turns t moves start i
-  pub counted : length moves ≡ count
+abbrev pub moves : ℕ → Bool
+moves w = not (eqb (w % 65536 / 256) (w % 65536 % 256))
 
-pub counted_none : (turns : List ℕ) (t : ℕ) → Counted turns t 0 0
-counted_none turns t = record { few = omega arith; moves = []; start = 0; passed = passed_none turns t; counted = refl }
+-- of n turns from place i on, the first of them at point p
+count_left : (turns : List ℕ) (i n p : ℕ) → i + n ≤ length turns → count_by moves (take n (drop i turns)) ≡ length (moves_from p (turns_of turns i n))
+count_left turns i zero p h = refl
+count_left turns i (suc n) p h =
+    let b : i < length turns = omega arith in
+    rw (
+      drop-cons turns i 0,
+      sum_by-cons (λ w. cond (moves w) 1 0) (at turns i) (take n (drop (suc i) turns)),
+      count_left turns (suc i) n (p + at turns i / 65536) (omega arith),
+    )
+    (go (eqb (at turns i % 65536 / 256) (at turns i % 65536 % 256)))
+  where
+    later : List Move
+    later = moves_from (p + at turns i / 65536) (turns_of turns (suc i) n)
 
-module _ {turns : List ℕ} {t count i : ℕ} (w : Counted turns t count i) where
-  pub counted_end : t ≤ i → count ≡ length (moves_from 0 (turns_of turns 0 t))
-  counted_end h = sym w.counted ∙ ap length (passed_end w.passed h)
+    go : (same : Bool) → cond (not same) 1 0 + length later
+        ≡ length (cond same later (move p (at turns i / 65536) (at turns i % 65536 / 256) (at turns i % 65536 % 256) ∷ later))
+    go true = omega arith
+    go false = omega arith
 
-  pub counted_on : i < t → at turns i % 65536 / 256 ≡ at turns i % 65536 % 256 → Counted turns t count (i + 1)
-  counted_on h same = record { few = omega (arith, w.few); moves = _; start = _; passed = passed_on w.passed h same; counted = w.counted }
-
-  pub counted_more : i < t → (at turns i % 65536 / 256 ≡ at turns i % 65536 % 256 → ⊥) → Counted turns t (count + 1) (i + 1)
-  counted_more h differ =
-      record {
-        few = omega (arith, w.few);
-        moves = _;
-        start = _;
-        passed = passed_more w.passed h differ;
-        counted = length-append w.moves (_ ∷ []) ∙ ap (λ n. n + 1) w.counted;
-      }
+pub count_turns : (turns : List ℕ) (t : ℕ) → t ≤ length turns → count_by moves (take t turns) ≡ length (moves_from 0 (turns_of turns 0 t))
+count_turns turns t h = count_left turns 0 t 0 (omega arith)

@@ -25,26 +25,22 @@ pub fn cut(
     let mut count = 0;
     let mut flag = false;
     let mut touch = false;
-    let mut i = 0;
-    while i < q {
+    for i in 0..q {
         let size = table[i] / LABELS;
         let owner = table[i] % LABELS;
         let row = owner as usize;
         let have = release[row];
         if have == 0 {
-            count = put(&mut *pieces, count, size, owner);
+            count = put(pieces, count, size, owner);
             touch = false;
-            i += 1;
         } else {
             let c = cut_interval(have, size, flag, touch);
-            let left = have - c.gap;
-            release[row] = left;
-            count = put(&mut *pieces, count, c.front, owner);
-            count = put(&mut *pieces, count, c.gap, owner + TAKEN);
-            count = put(&mut *pieces, count, c.back, owner);
+            release[row] = have - c.gap;
+            count = put(pieces, count, c.front, owner);
+            count = put(pieces, count, c.gap, owner + TAKEN);
+            count = put(pieces, count, c.back, owner);
             flag = c.flag;
             touch = c.touch;
-            i += 1;
         }
     }
     count

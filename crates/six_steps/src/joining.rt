@@ -13,12 +13,10 @@ pub fn new_table(turns: &[u64; ROOM], t: usize, table: &mut [u64; ROOM]) -> usiz
     ensures few { (result ≤ t) × (length table.new ≡ room) }
 {
     let mut count = 0;
-    let mut i = 0;
-    while i < t {
+    for i in 0..t {
         let size = turns[i] / LABELS;
         let turn = turns[i] % LABELS;
-        count = push(&mut *table, count, size, turn % ROWS);
-        i += 1;
+        count = push(table, count, size, turn % ROWS);
     }
     count
 }
@@ -28,14 +26,11 @@ pub fn count_moves(turns: &[u64; ROOM], t: usize) -> usize
     requires { t ≤ room }
     ensures { result ≡ length (moves_from 0 (turns_of turns.now 0 t)) }
 {
-    let mut count = 0;
-    let mut i = 0;
-    while i < t {
-        let turn = turns[i] % LABELS;
-        if turn / ROWS != turn % ROWS {
-            count += 1;
-        }
-        i += 1;
-    }
-    count
+    turns[..t]
+        .iter()
+        .filter(|run| {
+            let turn = **run % LABELS;
+            turn / ROWS != turn % ROWS
+        })
+        .count()
 }

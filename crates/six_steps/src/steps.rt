@@ -40,12 +40,12 @@ pub fn steps(
     let mut release = [0u64; MAX_DEVICES];
     let mut queue = [0u64; MAX_DEVICES];
     let moved = quotas(has, due, n, &mut release, &mut queue);
-    let pieces = cut(work, q, &mut release, &mut *next);
-    let turns = fill(&mut *next, pieces, &mut queue, n, &mut *work);
+    let pieces = cut(work, q, &mut release, next);
+    let turns = fill(next, pieces, &mut queue, n, work);
     Done {
-        turns: turns,
+        turns,
         intervals: new_table(work, turns, next),
-        moved: moved,
+        moved,
         count: count_moves(work, turns),
     }
 }

@@ -1,7 +1,6 @@
 -- `filling::fill` meets its contract. The loop's invariant: the turns written and the filling of what is left are all the turns.
-use Prim.Native.Nat.{◌<◌}
 use native.Mathlib.Omega.{arith}
-use Rattle.filling.proofs.FillSteps.{filling_none, filling_small, filling_push, filling_empty, filling_kept, filling_more, label_fits, filling_whole, filling_part, filling_end}
+use Rattle.filling.proofs.FillSteps.{filling_none, filling_push, filling_turn, filling_empty, filling_kept, filling_more, filling_whole, filling_part, filling_end}
 use Rattle.filling.proofs.fill.Goals as goal
 
 pub loop-i-init : goal.loop-i-init
@@ -23,95 +22,31 @@ pub loop-i-preserved-then-size-eq0 : goal.loop-i-preserved-then-size-eq0
 loop-i-preserved-then-size-eq0 c =
     filling_empty c.loop-i.invariant c.loop-i-test.true c.if-size-eq0.true
 
-pub offset_bounds-queue-j : goal.offset_bounds-queue-j
-offset_bounds-queue-j c =
-    let more : c.loop-i.j < c.args.n = filling_more c.loop-i.invariant c.loop-i-test.true c.if-piece-lt-TAKEN.false c.if-size-eq0.false in
-    omega (arith, more)
-
 pub bounds-queue-j : goal.bounds-queue-j
 bounds-queue-j c =
-    let more : c.loop-i.j < c.args.n = filling_more c.loop-i.invariant c.loop-i-test.true c.if-piece-lt-TAKEN.false c.if-size-eq0.false in
-    omega (arith, more, c.requires.n_bound.0)
-
-pub overflow_mul-turn : goal.overflow_mul-turn
-overflow_mul-turn c =
-    omega arith
-
-pub offset_bounds-queue-j-else-size-eq0 : goal.offset_bounds-queue-j-else-size-eq0
-offset_bounds-queue-j-else-size-eq0 c =
-    let more : c.loop-i.j < c.args.n = filling_more c.loop-i.invariant c.loop-i-test.true c.if-piece-lt-TAKEN.false c.if-size-eq0.false in
-    (omega (arith, more))
-
-pub bounds-queue-j-else-size-eq0 : goal.bounds-queue-j-else-size-eq0
-bounds-queue-j-else-size-eq0 c =
-    let more : c.loop-i.j < c.args.n = filling_more c.loop-i.invariant c.loop-i-test.true c.if-piece-lt-TAKEN.false c.if-size-eq0.false in
-    (omega (arith, more, c.requires.n_bound.0))
-
-pub overflow_add-turn : goal.overflow_add-turn
-overflow_add-turn c =
-    let more : c.loop-i.j < c.args.n = filling_more c.loop-i.invariant c.loop-i-test.true c.if-piece-lt-TAKEN.false c.if-size-eq0.false in
-    omega (arith, label_fits c.loop-i.invariant c.loop-i-test.true c.if-piece-lt-TAKEN.false more)
+    omega (arith, filling_more c.loop-i.invariant c.loop-i-test.true c.if-piece-lt-TAKEN.false c.if-size-eq0.false)
 
 pub push-count-requires-then-need-size : goal.push-count-requires-then-need-size
 push-count-requires-then-need-size c =
-    let more : c.loop-i.j < c.args.n = filling_more c.loop-i.invariant c.loop-i-test.true c.if-piece-lt-TAKEN.false c.if-size-eq0.false in
-    filling_push c.loop-i.invariant c.loop-i-test.true c.requires.n_bound.1 _ _ (omega (arith, c.if-need-size.true))
-    (omega (arith, label_fits c.loop-i.invariant c.loop-i-test.true c.if-piece-lt-TAKEN.false more))
-
-pub overflow_mul-pieces : goal.overflow_mul-pieces
-overflow_mul-pieces c =
-    omega (arith, filling_small c.loop-i.invariant c.loop-i-test.true, c.if-need-size.true)
-
-pub overflow_sub-pieces : goal.overflow_sub-pieces
-overflow_sub-pieces c =
-    omega (arith, c.if-need-size.true)
+    filling_turn c.loop-i.invariant c.loop-i-test.true c.if-piece-lt-TAKEN.false c.if-size-eq0.false c.requires.n_bound.1 _ (omega arith)
 
 pub loop-i-smaller-then-need-size : goal.loop-i-smaller-then-need-size
 loop-i-smaller-then-need-size c =
-    let more : c.loop-i.j < c.args.n = filling_more c.loop-i.invariant c.loop-i-test.true c.if-piece-lt-TAKEN.false c.if-size-eq0.false in
-    omega (arith, more)
+    omega (arith, filling_more c.loop-i.invariant c.loop-i-test.true c.if-piece-lt-TAKEN.false c.if-size-eq0.false)
 
 pub loop-i-preserved-then-need-size : goal.loop-i-preserved-then-need-size
 loop-i-preserved-then-need-size c =
-    let more : c.loop-i.j < c.args.n = filling_more c.loop-i.invariant c.loop-i-test.true c.if-piece-lt-TAKEN.false c.if-size-eq0.false in
-    filling_whole c.loop-i.invariant c.loop-i-test.true c.if-piece-lt-TAKEN.false more (omega (arith, c.requires.n_bound.1))
-    c.if-need-size.true c.push-count-then-need-size.ensures
+    filling_whole c.loop-i.invariant c.loop-i-test.true c.if-piece-lt-TAKEN.false c.if-size-eq0.false (omega arith) c.if-need-size.true
+    c.push-count-then-need-size.ensures
 
 pub push-count-requires-else-need-size : goal.push-count-requires-else-need-size
 push-count-requires-else-need-size c =
-    let more : c.loop-i.j < c.args.n = filling_more c.loop-i.invariant c.loop-i-test.true c.if-piece-lt-TAKEN.false c.if-size-eq0.false in
-    filling_push c.loop-i.invariant c.loop-i-test.true c.requires.n_bound.1 _ _ (omega arith)
-    (omega (arith, label_fits c.loop-i.invariant c.loop-i-test.true c.if-piece-lt-TAKEN.false more))
-
-pub offset_bounds-queue-j-else-need-size : goal.offset_bounds-queue-j-else-need-size
-offset_bounds-queue-j-else-need-size c =
-    let more : c.loop-i.j < c.args.n = filling_more c.loop-i.invariant c.loop-i-test.true c.if-piece-lt-TAKEN.false c.if-size-eq0.false in
-    (omega (arith, more))
-
-pub bounds-queue-j-else-need-size : goal.bounds-queue-j-else-need-size
-bounds-queue-j-else-need-size c =
-    let more : c.loop-i.j < c.args.n = filling_more c.loop-i.invariant c.loop-i-test.true c.if-piece-lt-TAKEN.false c.if-size-eq0.false in
-    (omega (arith, more, c.requires.n_bound.0))
-
-pub overflow_mul-queue : goal.overflow_mul-queue
-overflow_mul-queue c =
-    omega (arith, filling_small c.loop-i.invariant c.loop-i-test.true)
-
-pub offset_bounds-queue-j-else-need-size-2 : goal.offset_bounds-queue-j-else-need-size-2
-offset_bounds-queue-j-else-need-size-2 c =
-    let more : c.loop-i.j < c.args.n = filling_more c.loop-i.invariant c.loop-i-test.true c.if-piece-lt-TAKEN.false c.if-size-eq0.false in
-    (omega (arith, more))
-
-pub bounds-queue-j-else-need-size-2 : goal.bounds-queue-j-else-need-size-2
-bounds-queue-j-else-need-size-2 c =
-    let more : c.loop-i.j < c.args.n = filling_more c.loop-i.invariant c.loop-i-test.true c.if-piece-lt-TAKEN.false c.if-size-eq0.false in
-    (omega (arith, more, c.requires.n_bound.0))
+    filling_turn c.loop-i.invariant c.loop-i-test.true c.if-piece-lt-TAKEN.false c.if-size-eq0.false c.requires.n_bound.1 _ (omega arith)
 
 pub loop-i-preserved : goal.loop-i-preserved
 loop-i-preserved c =
-    let more : c.loop-i.j < c.args.n = filling_more c.loop-i.invariant c.loop-i-test.true c.if-piece-lt-TAKEN.false c.if-size-eq0.false in
-    filling_part c.loop-i.invariant c.loop-i-test.true c.if-piece-lt-TAKEN.false more c.requires.n_bound.0
-    c.if-need-size.false c.push-count-else-need-size.ensures
+    filling_part c.loop-i.invariant c.loop-i-test.true c.if-piece-lt-TAKEN.false c.if-size-eq0.false c.requires.n_bound.0 c.if-need-size.false
+    c.push-count-else-need-size.ensures
 
 pub returns : goal.returns
 returns c =

@@ -1,12 +1,7 @@
 -- `flat_moves::write_moves` meets its contract. The loop's invariant: the moves of the turns passed stand in front, and the rest of the list stays.
-use Prim.Native.Nat.{◌-◌}
 use Rattle.flat_moves.proofs.WrittenMoves.{Listed}
 use Rattle.flat_moves.proofs.write_moves.Given as goal
 
 abbrev pub invariant-loop-i : goal.invariant-loop-i
 invariant-loop-i l =
     Listed l.turns l.t l.names l.initial.list l.list l.count l.start l.i
-
-abbrev pub decreases-loop-i : goal.decreases-loop-i
-decreases-loop-i l =
-    l.t - l.i

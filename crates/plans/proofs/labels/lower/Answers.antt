@@ -1,20 +1,16 @@
 -- `plans::labels::lower` meets its contract. The loop's invariant: the runs passed are renamed, and the others stand as they did.
-use Rattle.plans.proofs.LabelSteps.{lowered_to, lowered_above, renamed_end, in_place_none, in_place_on, in_place_put}
+use mathlib.Core.Path.{ap, ◌∙◌}
+use native.Mathlib.Omega.{arith}
+use lib.ListN.{length-take}
+use Rattle.slicing.specs.Runs.{relabel}
+use Rattle.plans.specs.Labels.{lowered}
+use Rattle.plans.proofs.LabelSteps.{runs_named, runs_front, runs_take}
 use Rattle.plans.proofs.labels.lower.Goals as goal
-use Rattle.plans.proofs.labels.lower.Goals.{then-run-row, else-run-row}
 
-pub loop-i-init : goal.loop-i-init
-loop-i-init c =
-    in_place_none _ _ _ c.requires.1
-
-pub loop-i-preserved : goal.loop-i-preserved
-loop-i-preserved c =
-    let kept = c.loop-i.invariant in
-    elim c.if-run-row.branch [
-      | then-run-row w ↦ rw w.table-is (in_place_put kept _ c.loop-i-test.true c.requires.0 (lowered_above _ _ w.if-run-row.true))
-      | else-run-row w ↦ rw w.table-is (in_place_on kept c.loop-i-test.true (lowered_to _ _ w.if-run-row.false))
-    ]
-
-pub returns : goal.returns
-returns c =
-    let kept = c.loop-i.invariant.renamed in record { q_after = renamed_end kept c.loop-i-test.false; table_len = kept.size }
+pub returns-clause-q_after : goal.returns-clause-q_after
+returns-clause-q_after c =
+    let q = c.args.q in
+    let table = c.args.table.now in
+    runs_front c.loop-run.run-items _ q (omega (arith, length-take q table))
+    ∙ runs_named (lowered c.args.p) _ _ 0 q (λ j a b. c.loop-run.invariant.named j (omega (arith, length-take q table)))
+    ∙ ap (relabel (lowered c.args.p)) (runs_take table q)

@@ -1,17 +1,12 @@
--- `plans::labels::renew` meets its contract. The loop's invariant: the runs passed are copied, with their labels as they are.
+-- `plans::labels::renew` meets its contract: the q runs in front are those of `next`.
 use mathlib.Core.Path.{◌∙◌}
-use Rattle.slicing.proofs.Runs.{relabel_same}
-use Rattle.plans.proofs.LabelSteps.{named_same, renamed_none, renamed_put, renamed_end}
+use native.Mathlib.Omega.{arith}
+use lib.ListN.{length-take}
+use Rattle.plans.proofs.LabelSteps.{runs_front, runs_take}
 use Rattle.plans.proofs.labels.renew.Goals as goal
 
-pub loop-i-init : goal.loop-i-init
-loop-i-init c =
-    renamed_none _ _ _ _ c.requires.1
-
-pub loop-i-preserved : goal.loop-i-preserved
-loop-i-preserved c =
-    renamed_put c.loop-i.invariant _ c.loop-i-test.true c.requires.0 (named_same _)
-
-pub returns : goal.returns
-returns c =
-    let kept = c.loop-i.invariant in record { q_after = renamed_end kept c.loop-i-test.false ∙ relabel_same _; table_len = kept.size }
+pub returns-clause-q_after : goal.returns-clause-q_after
+returns-clause-q_after c =
+    let q = c.args.q in
+    runs_front c.copy_from_slice.new.self _ q (omega (arith, length-take q c.args.table.now))
+    ∙ rw c.copy_from_slice.ensures.after (runs_take c.args.next.now q)
