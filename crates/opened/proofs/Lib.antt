@@ -1,4 +1,3 @@
 pub mod RowNames
 pub mod OpenPools
-pub mod HalvedIds
-pub mod FreshPools
+pub mod PartedIds

@@ -16,17 +16,7 @@ pub fn position(ids: &[u64; MAX_DEVICES], n: usize, id: u64) -> usize
     requires { (n ≤ 256) × Ascending ids.now n }
     ensures { Position ids.now n id result }
 {
-    let mut low = 0;
-    let mut high = n;
-    while low < high {
-        let middle = (low + high) / 2;
-        if ids[middle] < id {
-            low = middle + 1;
-        } else {
-            high = middle;
-        }
-    }
-    low
+    ids[..n].partition_point(|x| *x < id)
 }
 
 // The row of a device; where it is absent, as an error, the row that it would have.
@@ -57,12 +47,10 @@ pub fn shared(
 {
     let due = shares(before.range, ids, capacities, n);
     Opened {
-        range: before.range,
-        limit: before.limit,
         devices: n,
         ids: *ids,
         capacities: *capacities,
         has: due,
-        intervals: before.intervals,
+        ..before
     }
 }

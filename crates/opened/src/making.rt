@@ -14,8 +14,8 @@ pub fn without_devices(range: u64, limit: u64) -> Opened
     ensures { (table : List ℕ) → length table ≡ room → Open result table × (state_in result table ≡ Changes.fresh range limit) }
 {
     Opened {
-        range: range,
-        limit: limit,
+        range,
+        limit,
         devices: 0,
         ids: [0; MAX_DEVICES],
         capacities: [0; MAX_DEVICES],

@@ -4,31 +4,18 @@ ghost use Rattle.slicing_core.specs.Stages.{Decides};
 ghost use Rattle.pools.specs.Pools.{Zeros, Limited, Cleared, Formed};
 
 use pools::Pool;
-use slicing::{MAX_DEVICES, MAX_INTERVALS, MAX_RANGE};
+use slicing::{MAX_DEVICES, MAX_LIMIT, MAX_RANGE, outside};
 use slicing_core::devices::rising;
 
 // Whether the numbers of a pool are within their limits.
 fn limited(pool: Pool) -> bool
     ensures { Decides result (Limited pool) }
 {
-    let range = pool.range;
-    let limit = pool.limit as usize;
-    if range < 1 {
+    let limit = u64::from(pool.limit);
+    if outside(MAX_RANGE, pool.range) || outside(MAX_LIMIT, limit) {
         return false;
     }
-    if range > MAX_RANGE {
-        return false;
-    }
-    if limit < 1 {
-        return false;
-    }
-    if limit > MAX_INTERVALS {
-        return false;
-    }
-    if pool.devices > MAX_DEVICES {
-        return false;
-    }
-    pool.intervals <= limit
+    pool.devices <= MAX_DEVICES && pool.intervals <= pool.limit as usize
 }
 
 // Whether all places from n on are 0, of ids and the numbers beside them.
@@ -36,15 +23,10 @@ fn unused(ids: &[u16], values: &[u32], n: usize) -> bool
     requires { length ids.now ≡ length values.now }
     ensures { Decides result (Zeros ids.now n × Zeros values.now n) }
 {
-    let mut i = n;
-    while i < ids.len() {
-        if ids[i] != 0 {
+    for i in n..ids.len() {
+        if ids[i] != 0 || values[i] != 0 {
             return false;
         }
-        if values[i] != 0 {
-            return false;
-        }
-        i += 1;
     }
     true
 }
@@ -53,14 +35,8 @@ fn unused(ids: &[u16], values: &[u32], n: usize) -> bool
 pub fn cleared(pool: Pool) -> bool
     ensures { Decides result (Cleared pool) }
 {
-    let ids = pool.ids;
-    let capacities = pool.capacities;
-    let starts = pool.starts;
-    let owners = pool.owners;
-    if !unused(&ids, &capacities, pool.devices) {
-        return false;
-    }
-    unused(&owners, &starts, pool.intervals)
+    unused(&pool.ids, &pool.capacities, pool.devices)
+        && unused(&pool.owners, &pool.starts, pool.intervals)
 }
 
 // Whether all but the intervals' points is as in a valid pool, where the unused places are 0; ids and
@@ -69,15 +45,7 @@ pub fn formed(pool: Pool, ids: &[u64; MAX_DEVICES], capacities: &[u64; MAX_DEVIC
     requires { Cleared pool × (ids.now ≡ pool.ids) × (capacities.now ≡ pool.capacities) }
     ensures { Decides result (Formed pool) }
 {
-    let n = pool.devices;
-    if !limited(pool) {
-        return false;
-    }
-    if !rising(ids, capacities, n) {
-        return false;
-    }
-    if n > 0 {
-        return true;
-    }
-    pool.intervals == 0
+    limited(pool)
+        && rising(ids, capacities, pool.devices)
+        && (pool.devices > 0 || pool.intervals == 0)
 }

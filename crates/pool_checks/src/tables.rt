@@ -9,22 +9,7 @@ ghost use Rattle.pool_checks.specs.Tables.{LengthAt, Rowed, RowsOf, Dealt};
 
 use opened::devices::find;
 use packed_runs::{LABELS, ROOM};
-use six_steps::quotas::above;
 use slicing::{MAX_DEVICES, MAX_INTERVALS};
-
-// A start, which is no more than 32 bits.
-fn wide(start: u32) -> u64
-    ensures { (result ≡ start) × (result < 2 ^ 32) }
-{
-    start as u64
-}
-
-// An id.
-fn wide_id(id: u16) -> u64
-    ensures { result ≡ id }
-{
-    id as u64
-}
 
 // The length of interval i of q: to the next start, that of the last to the end of the range. 0 where
 // the next start is not higher, or the next owner is the same.
@@ -38,14 +23,14 @@ fn length_at(
     requires { (i < q) × (q ≤ 4096) × (range ≤ 2 ^ 32) }
     ensures { LengthAt starts.now owners.now q range i result }
 {
-    let start = wide(starts[i]);
-    if i + 1 < q {
-        if owners[i + 1] == owners[i] {
-            return 0;
-        }
-        return above(wide(starts[i + 1]), start);
+    let start = u64::from(starts[i]);
+    if i + 1 == q {
+        return range.saturating_sub(start);
     }
-    above(range, start)
+    if owners[i + 1] == owners[i] {
+        return 0;
+    }
+    u64::from(starts[i + 1]).saturating_sub(start)
 }
 
 // The q intervals as runs of the rows of their owners. False where an interval has no length, its owner
@@ -63,23 +48,15 @@ fn rows_of(
     ensures rows_of { RowsOf starts.now owners.now q range ids.now n table.new result }
     ensures table_len { length table.new ≡ room }
 {
-    let mut i = 0;
-    while i < q {
+    for i in 0..q {
         let size = length_at(starts, owners, q, range, i);
-        if size == 0 {
-            return false;
-        }
-        let place = find(ids, n, wide_id(owners[i]));
-        if !place.present {
+        let place = find(ids, n, u64::from(owners[i]));
+        if size == 0 || !place.present {
             return false;
         }
         table[i] = size * LABELS + place.row as u64;
-        i += 1;
     }
-    if q == 0 {
-        return false;
-    }
-    starts[0] == 0
+    q > 0 && starts[0] == 0
 }
 
 // What each row has of a table.
@@ -89,11 +66,9 @@ fn held(table: &[u64; ROOM], q: usize) -> [u64; MAX_DEVICES]
     ensures result_len { length result ≡ 256 }
 {
     let mut has = [0u64; MAX_DEVICES];
-    let mut i = 0;
-    while i < q {
+    for i in 0..q {
         let row = (table[i] % LABELS) as usize;
-        has[row] = has[row] + table[i] / LABELS;
-        i += 1;
+        has[row] += table[i] / LABELS;
     }
     has
 }
@@ -103,14 +78,7 @@ fn same(has: &[u64; MAX_DEVICES], due: &[u64; MAX_DEVICES], n: usize) -> bool
     requires { n ≤ 256 }
     ensures { Decides result ((i : ℕ) → i < n → at has.now i ≡ at due.now i) }
 {
-    let mut i = 0;
-    while i < n {
-        if has[i] != due[i] {
-            return false;
-        }
-        i += 1;
-    }
-    true
+    has[..n] == due[..n]
 }
 
 // What each row has of a pool's intervals, and whether each has its due.
@@ -138,7 +106,7 @@ pub fn dealt(
         × ((i : ℕ) → i < n → at result.has i ≡ owned i (runs table.new 0 q)) }
     ensures has_len { (length result.has ≡ 256) × (length table.new ≡ room) }
 {
-    if !rows_of(starts, owners, q, range, ids, n, &mut *table) {
+    if !rows_of(starts, owners, q, range, ids, n, table) {
         return Holdings {
             fair: false,
             has: [0; MAX_DEVICES],
@@ -147,6 +115,6 @@ pub fn dealt(
     let has = held(table, q);
     Holdings {
         fair: same(&has, due, n),
-        has: has,
+        has,
     }
 }

@@ -1,5 +1,4 @@
 pub mod PaddedRows
 pub mod PoolLaws
 pub mod ValidParts
-pub mod FreshPools
 pub mod ClosedPools

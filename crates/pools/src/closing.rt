@@ -27,18 +27,15 @@ fn narrow(ids: &[u64; MAX_DEVICES], capacities: &[u64; MAX_DEVICES], n: usize) -
     ensures ids { result.ids ≡ padded 256 (take n ids.now) }
     ensures capacities { result.capacities ≡ padded 256 (take n capacities.now) }
 {
-    let mut narrow_ids = [0u16; MAX_DEVICES];
-    let mut narrow_capacities = [0u32; MAX_DEVICES];
-    let mut i = 0;
-    while i < n {
-        narrow_ids[i] = ids[i] as u16;
-        narrow_capacities[i] = capacities[i] as u32;
-        i += 1;
+    let mut columns = Columns {
+        ids: [0; MAX_DEVICES],
+        capacities: [0; MAX_DEVICES],
+    };
+    for i in 0..n {
+        columns.ids[i] = ids[i] as u16;
+        columns.capacities[i] = capacities[i] as u32;
     }
-    Columns {
-        ids: narrow_ids,
-        capacities: narrow_capacities,
-    }
+    columns
 }
 
 // The starts of the q runs, the first at point 0.
@@ -48,11 +45,9 @@ fn starts_of(table: &[u64; ROOM], q: usize) -> [u32; MAX_INTERVALS]
 {
     let mut into = [0u32; MAX_INTERVALS];
     let mut start = 0;
-    let mut i = 0;
-    while i < q {
+    for i in 0..q {
         into[i] = start as u32;
         start += table[i] / LABELS;
-        i += 1;
     }
     into
 }
@@ -68,11 +63,9 @@ fn owners_of(
     ensures { result ≡ padded 4096 (owners_in (relabel (at ids.now) (runs table.now 0 q))) }
 {
     let mut into = [0u16; MAX_INTERVALS];
-    let mut i = 0;
-    while i < q {
+    for i in 0..q {
         let row = (table[i] % LABELS) as usize;
         into[i] = ids[row] as u16;
-        i += 1;
     }
     into
 }
@@ -82,21 +75,17 @@ pub fn close(opened: Opened, table: &[u64; ROOM]) -> Pool
     requires { Open opened table.now }
     ensures { result ≡ pool_of (state_in opened table.now) }
 {
-    let ids = opened.ids;
-    let capacities = opened.capacities;
     let n = opened.devices;
     let q = opened.intervals;
-    let columns = narrow(&ids, &capacities, n);
-    let narrow_ids = columns.ids;
-    let narrow_capacities = columns.capacities;
+    let Columns { ids, capacities } = narrow(&opened.ids, &opened.capacities, n);
     Pool {
         range: opened.range,
         limit: opened.limit as u32,
         devices: n,
-        ids: narrow_ids,
-        capacities: narrow_capacities,
+        ids,
+        capacities,
         intervals: q,
         starts: starts_of(table, q),
-        owners: owners_of(table, q, &ids, n),
+        owners: owners_of(table, q, &opened.ids, n),
     }
 }

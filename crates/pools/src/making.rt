@@ -5,15 +5,15 @@ ghost use Rattle.pools.specs.Pools.{pool_of};
 ghost use Rattle.pools.specs.Promises.{Fresh};
 
 use crate::{Pool, PoolAnswer};
-use slicing::{MAX_DEVICES, MAX_INTERVALS, MAX_LIMIT, MAX_RANGE, OUTSIDE};
+use slicing::{MAX_DEVICES, MAX_INTERVALS, MAX_LIMIT, MAX_RANGE, OUTSIDE, outside};
 
 // A pool without devices.
 fn without_devices(range: u64, limit: u32) -> Pool
     ensures { result ≡ pool_of (Changes.fresh range limit) }
 {
     Pool {
-        range: range,
-        limit: limit,
+        range,
+        limit,
         devices: 0,
         ids: [0; MAX_DEVICES],
         capacities: [0; MAX_DEVICES],
@@ -28,25 +28,7 @@ fn without_devices(range: u64, limit: u32) -> Pool
 pub fn fresh(range: u64, limit: u64) -> PoolAnswer
     ensures { Fresh range limit result }
 {
-    if range < 1 {
-        return PoolAnswer {
-            refusal: OUTSIDE,
-            pool: without_devices(1, 1),
-        };
-    }
-    if range > MAX_RANGE {
-        return PoolAnswer {
-            refusal: OUTSIDE,
-            pool: without_devices(1, 1),
-        };
-    }
-    if limit < 1 {
-        return PoolAnswer {
-            refusal: OUTSIDE,
-            pool: without_devices(1, 1),
-        };
-    }
-    if limit > MAX_LIMIT {
+    if outside(MAX_RANGE, range) || outside(MAX_LIMIT, limit) {
         return PoolAnswer {
             refusal: OUTSIDE,
             pool: without_devices(1, 1),

@@ -26,7 +26,7 @@ pub fn not_found(refusal: u32) -> Found
     ensures { result ≡ not_found refusal }
 {
     Found {
-        refusal: refusal,
+        refusal,
         range: 0,
         capacity: 0,
         sum: 0,
@@ -43,20 +43,17 @@ pub fn find_device(opened: Opened, table: &[u64; ROOM], id: u64) -> Found
     if outside(MAX_ID, id) {
         return not_found(OUTSIDE);
     }
-    let ids = opened.ids;
-    let place = find(&ids, opened.devices, id);
+    let place = find(&opened.ids, opened.devices, id);
     if !place.present {
         return not_found(ABSENT);
     }
     let row = place.row;
-    let capacities = opened.capacities;
-    let has = opened.has;
     Found {
         refusal: 0,
         range: opened.range,
-        capacity: capacities[row],
-        sum: sum(&capacities, &ids, opened.devices),
-        points: has[row],
+        capacity: opened.capacities[row],
+        sum: sum(&opened.capacities, &opened.ids, opened.devices),
+        points: opened.has[row],
     }
 }
 
@@ -70,6 +67,5 @@ pub fn find_in(pool: Pool, id: u64) -> Found
     if !checked.valid {
         return not_found(OUTSIDE);
     }
-    let opened = checked.opened;
-    find_device(opened, &table, id)
+    find_device(checked.opened, &table, id)
 }

@@ -4,12 +4,12 @@ ghost use Rattle.slicing_core.specs.Stages.{Decides};
 ghost use Rattle.packed_runs.specs.Words.{room};
 ghost use Rattle.opened.specs.OpenPools.{state_in, Open};
 ghost use Rattle.pools.specs.Pools.{state_of, ValidPool, Cleared};
-ghost use Rattle.valid_pools.specs.Opening.{Widened, Entered};
+ghost use Rattle.valid_pools.specs.Opening.{Entered};
 
 use opened::Opened;
 use packed_runs::{ROOM, blank};
 use pool_checks::checking::{cleared, formed};
-use pool_checks::tables::dealt;
+use pool_checks::tables::{Holdings, dealt};
 use pools::Pool;
 use shares::shares;
 use slicing::MAX_DEVICES;
@@ -21,41 +21,18 @@ pub struct Checked {
     pub opened: Opened,
 }
 
-// Copies n ids, and the numbers beside them, into 64-bit places.
-fn widen(into: &mut [u64], beside: &mut [u64], ids: &[u16], values: &[u32], n: usize)
-    requires { (length ids.now ≡ n) × (length values.now ≡ n) × (length into.old ≡ n) × (length beside.old ≡ n) }
-    ensures ids { Widened ids.now n into.new }
-    ensures values { Widened values.now n beside.new }
-{
-    let mut i = 0;
-    while i < n {
-        into[i] = ids[i] as u64;
-        beside[i] = values[i] as u64;
-        i += 1;
-    }
-}
-
 // A pool's numbers as those of an opened one, which has nothing yet.
 fn entered(pool: Pool) -> Opened
     ensures { Entered pool result }
 {
-    let narrow_ids = pool.ids;
-    let narrow_capacities = pool.capacities;
-    let mut ids = [0u64; MAX_DEVICES];
-    let mut capacities = [0u64; MAX_DEVICES];
-    widen(
-        &mut ids,
-        &mut capacities,
-        &narrow_ids,
-        &narrow_capacities,
-        MAX_DEVICES,
-    );
+    let ids = pool.ids.map(u64::from);
+    let capacities = pool.capacities.map(u64::from);
     Opened {
         range: pool.range,
-        limit: pool.limit as u64,
+        limit: u64::from(pool.limit),
         devices: pool.devices,
-        ids: ids,
-        capacities: capacities,
+        ids,
+        capacities,
         has: [0; MAX_DEVICES],
         intervals: pool.intervals,
     }
@@ -70,31 +47,34 @@ pub fn open_cleared(pool: Pool, table: &mut [u64; ROOM]) -> Checked
     ensures table_len { length table.new ≡ room }
 {
     let n = pool.devices;
-    let q = pool.intervals;
-    let starts = pool.starts;
-    let owners = pool.owners;
     let mut opened = entered(pool);
-    let ids = opened.ids;
-    let capacities = opened.capacities;
-    if !formed(pool, &ids, &capacities) {
+    if !formed(pool, &opened.ids, &opened.capacities) {
         return Checked {
             valid: false,
-            opened: opened,
+            opened,
         };
     }
     if n == 0 {
         return Checked {
             valid: true,
-            opened: opened,
+            opened,
         };
     }
-    let due = shares(pool.range, &ids, &capacities, n);
-    let found = dealt(&starts, &owners, q, pool.range, &ids, n, &due, table);
-    let has = found.has;
+    let due = shares(pool.range, &opened.ids, &opened.capacities, n);
+    let Holdings { fair, has } = dealt(
+        &pool.starts,
+        &pool.owners,
+        pool.intervals,
+        pool.range,
+        &opened.ids,
+        n,
+        &due,
+        table,
+    );
     opened.has = has;
     Checked {
-        valid: found.fair,
-        opened: opened,
+        valid: fair,
+        opened,
     }
 }
 
@@ -119,6 +99,5 @@ pub fn valid(pool: Pool) -> bool
     ensures { Decides result (ValidPool pool) }
 {
     let mut table = blank();
-    let checked = open(pool, &mut table);
-    checked.valid
+    open(pool, &mut table).valid
 }

