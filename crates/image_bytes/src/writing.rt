@@ -15,18 +15,14 @@ pub fn put_image(pool: Pool, buffer: &mut [u8])
 {
     let n = pool.devices;
     let q = pool.intervals;
-    let ids = pool.ids;
-    let capacities = pool.capacities;
-    let starts = pool.starts;
-    let owners = pool.owners;
     put_head(
-        &mut *buffer,
+        buffer,
         pool.range,
-        pool.limit as u64,
+        u64::from(pool.limit),
         n as u64,
         q as u64,
     );
-    put_devices(&mut buffer[HEAD..], &ids, &capacities, n);
+    put_devices(&mut buffer[HEAD..], &pool.ids, &pool.capacities, n);
     let end = HEAD + ROW * n;
-    put_intervals(&mut buffer[end..], &starts, &owners, q);
+    put_intervals(&mut buffer[end..], &pool.starts, &pool.owners, q);
 }

@@ -7,7 +7,7 @@ ghost use Rattle.opened.specs.OpenPools.{state_in, Open};
 ghost use Rattle.calls.specs.Calls.{change_of};
 ghost use Rattle.image_changes.specs.Promises.{Changed, moved_as};
 
-use answers::put3;
+use answers::put;
 use calls::{Call, plan};
 use flat_moves::write_moves;
 use images::WriteAnswer;
@@ -41,18 +41,16 @@ fn change(
         &mut after_table,
     );
     if made.refusal > 0 {
-        put3(&mut *answer, 0, 0, 0);
+        put(answer, [0; 3]);
         return made.refusal;
     }
-    let after = made.after;
-    let names = made.names;
-    let pool = close(after, &after_table);
-    let WriteAnswer::Written(size) = images::store(pool, &mut *next) else {
-        put3(&mut *answer, 0, 0, 0);
+    let pool = close(made.after, &after_table);
+    let WriteAnswer::Written(size) = images::store(pool, next) else {
+        put(answer, [0; 3]);
         return SHORT_BUFFER;
     };
-    write_moves(&turns, made.turns, &names, &mut *list);
-    put3(&mut *answer, size as u64, made.moved, made.count as u64);
+    write_moves(&turns, made.turns, &made.names, list);
+    put(answer, [size as u64, made.moved, made.count as u64]);
     0
 }
 
@@ -76,9 +74,8 @@ pub fn change_image(
     let mut table = blank();
     let made = images::read_open(image, &mut table);
     if made.refusal > 0 {
-        put3(&mut *answer, 0, 0, 0);
+        put(answer, [0; 3]);
         return made.refusal;
     }
-    let before = made.opened;
-    change(before, &table, call, &mut *next, &mut *list, &mut *answer)
+    change(made.opened, &table, call, next, list, answer)
 }

@@ -2,7 +2,7 @@
 // which decides nothing again.
 ghost use Rattle.image_lookups.specs.Promises.{Owned};
 
-use answers::put1;
+use answers::put;
 use lookup_numbers::put_owner;
 use lookups::owner_in;
 use slicing::SHORT_BUFFER;
@@ -17,7 +17,7 @@ pub fn owner(image: &[u8], point: u64, answer: &mut [u64]) -> u32
     }
     let made = images::read(image);
     if made.refusal > 0 {
-        put1(&mut *answer, 0);
+        put(answer, [0]);
         return made.refusal;
     }
     let pool = made.pool;

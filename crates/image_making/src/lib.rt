@@ -6,7 +6,7 @@ ghost use Rattle.std.specs.Prelude.{◌≡◌, cond, ◌≤◌, ltb, length};
 ghost use Rattle.pools.specs.Pools.{state_of, ValidPool};
 ghost use Rattle.image_making.specs.Promises.{Checked, unstored, stored_as, FreshStored, ReplayStored, Transcript};
 
-use answers::put1;
+use answers::put;
 use history::TranscriptAnswer;
 use images::WriteAnswer;
 use pools::{Pool, PoolAnswer};
@@ -17,8 +17,7 @@ use slicing::SHORT_BUFFER;
 pub fn check(image: &[u8]) -> u32
     ensures { Checked image.now result }
 {
-    let made = images::read(image);
-    made.refusal
+    images::read(image).refusal
 }
 
 // Writes the image of a pool, and answers its length.
@@ -26,13 +25,13 @@ fn store(pool: Pool, image: &mut [u8], answer: &mut [u64]) -> u32
     requires { ValidPool pool × (1 ≤ length answer.old) }
     ensures { record { number = result; image = image.new; answer = answer.new } ≡ stored_as (state_of pool) image.old answer.old }
 {
-    match images::store(pool, &mut *image) {
+    match images::store(pool, image) {
         WriteAnswer::Written(size) => {
-            put1(&mut *answer, size as u64);
+            put(answer, [size as u64]);
             0
         }
         WriteAnswer::Refused(refusal) => {
-            put1(&mut *answer, 0);
+            put(answer, [0]);
             refusal
         }
     }
@@ -46,11 +45,10 @@ fn store_made(made: PoolAnswer, image: &mut [u8], answer: &mut [u64]) -> u32
         (stored_as (state_of made.pool) image.old answer.old) }
 {
     if made.refusal > 0 {
-        put1(&mut *answer, 0);
+        put(answer, [0]);
         return made.refusal;
     }
-    let pool = made.pool;
-    store(pool, &mut *image, &mut *answer)
+    store(made.pool, image, answer)
 }
 
 // The image of a fresh pool; answer: its length. 2 where the range is not within 1 to 4,294,967,296 or the
@@ -58,10 +56,10 @@ fn store_made(made: PoolAnswer, image: &mut [u8], answer: &mut [u64]) -> u32
 pub fn fresh(range: u64, limit: u64, image: &mut [u8], answer: &mut [u64]) -> u32
     ensures { FreshStored range limit image.old answer.old (record { number = result; image = image.new; answer = answer.new }) }
 {
-    if answer.len() < 1 {
+    if answer.is_empty() {
         return SHORT_BUFFER;
     }
-    store_made(pools::fresh(range, limit), &mut *image, &mut *answer)
+    store_made(pools::fresh(range, limit), image, answer)
 }
 
 // The image of the pool that a history leaves, refused lines included; answer: its length. 2 for more than
@@ -69,26 +67,26 @@ pub fn fresh(range: u64, limit: u64, image: &mut [u8], answer: &mut [u64]) -> u3
 pub fn replay(text: &[u8], image: &mut [u8], answer: &mut [u64]) -> u32
     ensures { ReplayStored text.now image.old answer.old (record { number = result; image = image.new; answer = answer.new }) }
 {
-    if answer.len() < 1 {
+    if answer.is_empty() {
         return SHORT_BUFFER;
     }
-    store_made(history::pool_after(text), &mut *image, &mut *answer)
+    store_made(history::pool_after(text), image, answer)
 }
 
 // What `slices` prints of a history; answer: its length. 17 for a buffer of less than 3,145,728 bytes.
 pub fn transcript(text: &[u8], out: &mut [u8], answer: &mut [u64]) -> u32
     ensures { Transcript text.now out.old answer.old (record { number = result; image = out.new; answer = answer.new }) }
 {
-    if answer.len() < 1 {
+    if answer.is_empty() {
         return SHORT_BUFFER;
     }
-    match history::transcript(text, &mut *out) {
+    match history::transcript(text, out) {
         TranscriptAnswer::Printed(printed) => {
-            put1(&mut *answer, printed as u64);
+            put(answer, [printed as u64]);
             0
         }
         TranscriptAnswer::Refused(refusal) => {
-            put1(&mut *answer, 0);
+            put(answer, [0]);
             refusal
         }
     }

@@ -1,6 +1,5 @@
 -- Rows of three numbers, written behind one another.
 --
--- set_three (a row stored)
 -- devices: length_devices_with, devices_put (a device behind those that are done)
 -- intervals: length_intervals_as, intervals_put (an interval behind those that are done)
 use mathlib.Core.Path.{◌≡◌, refl, ap, ◌∙◌}
@@ -8,9 +7,7 @@ use mathlib.Core.List.{List, [], ◌∷◌, ◌++◌}
 use Prim.Native.Nat.{ℕ, zero, suc, ◌+◌, ◌*◌, ◌/◌, ◌%◌, ◌≤◌}
 use native.Mathlib.Omega.{arith}
 use native.Mathlib.Nat.{suc-add, add-zero, zero-add}
-use native.Mathlib.Numerals.{add-one}
-use lib.ListN.{length, set, take, drop}
-use lib.Seq.{sets-eq}
+use lib.ListN.{length, take, drop}
 use Rattle.slicing.specs.Devices.{Device}
 use Rattle.slicing.specs.Runs.{Run, ◌of◌, total, relabel, intervals}
 use Rattle.slicing_core.specs.Rows.{at, device_rows}
@@ -19,12 +16,6 @@ use Rattle.slicing_core.proofs.Rows.{length_device_rows}
 use Rattle.packed_runs.specs.Words.{runs}
 use Rattle.opened.proofs.RowNames.{length_relabel, length_runs}
 use Rattle.image_rows.specs.Promises.{devices_with, intervals_as}
-
-pub set_three : (xs : List ℕ) (i a b c : ℕ) → i + 3 ≤ length xs
-    → set (set (set xs i a) (i + 1) b) (i + 2) c ≡ take i xs ++ (a ∷ b ∷ c ∷ []) ++ drop (i + 3) xs
-set_three xs i a b c h =
-    let two : i + 2 ≡ suc (suc i) = omega arith in
-    rw (add-one, two) (sets-eq (a ∷ b ∷ c ∷ []) xs i h)
 
 -- a row behind i rows
 row_put : (before done done' row after after' : List ℕ) (i : ℕ) → length done ≡ 3 * i → done' ≡ done ++ row → after ≡ done ++ drop (3 * i) before

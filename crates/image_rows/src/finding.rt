@@ -13,6 +13,5 @@ pub fn find_on(image: &[u8], id: u64) -> Found
     if made.refusal > 0 {
         return not_found(made.refusal);
     }
-    let opened = made.opened;
-    find_device(opened, &table, id)
+    find_device(made.opened, &table, id)
 }

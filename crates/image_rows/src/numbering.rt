@@ -2,7 +2,7 @@
 ghost use Rattle.image_rows.specs.Promises.{Numbered, Shared, Reported};
 
 use crate::finding::find_on;
-use answers::{put1, put2, put4};
+use answers::put;
 use slicing::SHORT_BUFFER;
 use valid_pools::report_of;
 
@@ -16,16 +16,18 @@ pub fn numbers(image: &[u8], answer: &mut [u64]) -> u32
     }
     let made = images::read(image);
     if made.refusal > 0 {
-        put4(&mut *answer, 0, 0, 0, 0);
+        put(answer, [0; 4]);
         return made.refusal;
     }
     let pool = made.pool;
-    put4(
-        &mut *answer,
-        pool.range,
-        pool.limit as u64,
-        pool.devices as u64,
-        pool.intervals as u64,
+    put(
+        answer,
+        [
+            pool.range,
+            u64::from(pool.limit),
+            pool.devices as u64,
+            pool.intervals as u64,
+        ],
     );
     0
 }
@@ -35,11 +37,11 @@ pub fn numbers(image: &[u8], answer: &mut [u64]) -> u32
 pub fn share(image: &[u8], id: u64, answer: &mut [u64]) -> u32
     ensures { Shared image.now id answer.old (record { number = result; places = answer.new }) }
 {
-    if answer.len() < 1 {
+    if answer.is_empty() {
         return SHORT_BUFFER;
     }
     let device = find_on(image, id);
-    put1(&mut *answer, device.points);
+    put(answer, [device.points]);
     device.refusal
 }
 
@@ -54,8 +56,7 @@ pub fn report(image: &[u8], id: u64, answer: &mut [u64], difference: &mut i64) -
     }
     let device = find_on(image, id);
     let told = report_of(device);
-    put2(&mut *answer, told.whole, told.remainder);
-    let signed = told.difference;
-    *difference = signed;
+    put(answer, [told.whole, told.remainder]);
+    *difference = told.difference;
     told.refusal
 }

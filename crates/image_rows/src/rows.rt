@@ -8,14 +8,11 @@ use packed_runs::{LABELS, ROOM, blank};
 use slicing::SHORT_BUFFER;
 
 // Puts a row at place `place`.
-fn put_row(rows: &mut [u64], place: usize, x: u64, y: u64, z: u64)
+fn put_row(rows: &mut [u64], place: usize, row: [u64; 3])
     requires { 3 * place + 3 ≤ length rows.old }
-    ensures { rows.new ≡ take (3 * place) rows.old ++ (x ∷ y ∷ z ∷ []) ++ drop (3 * place + 3) rows.old }
+    ensures { rows.new ≡ take (3 * place) rows.old ++ row ++ drop (3 * place + 3) rows.old }
 {
-    let i = 3 * place;
-    rows[i] = x;
-    rows[i + 1] = y;
-    rows[i + 2] = z;
+    rows[3 * place..3 * place + 3].copy_from_slice(&row);
 }
 
 // Puts id, capacity and share of each device of an opened pool, whose table is `table`; the contract alone
@@ -24,13 +21,12 @@ fn put_devices(opened: Opened, table: &[u64; ROOM], rows: &mut [u64])
     requires { Open opened table.now × (3 * opened.devices ≤ length rows.old) }
     ensures { rows.new ≡ device_numbers (state_in opened table.now) ++ drop (3 * opened.devices) rows.old }
 {
-    let ids = opened.ids;
-    let capacities = opened.capacities;
-    let has = opened.has;
-    let mut i = 0;
-    while i < opened.devices {
-        put_row(&mut *rows, i, ids[i], capacities[i], has[i]);
-        i += 1;
+    for i in 0..opened.devices {
+        put_row(
+            rows,
+            i,
+            [opened.ids[i], opened.capacities[i], opened.has[i]],
+        );
     }
 }
 
@@ -39,18 +35,17 @@ fn put_intervals(opened: Opened, table: &[u64; ROOM], rows: &mut [u64])
     requires { Open opened table.now × (3 * opened.intervals ≤ length rows.old) }
     ensures { rows.new ≡ interval_numbers (state_in opened table.now) ++ drop (3 * opened.intervals) rows.old }
 {
-    let ids = opened.ids;
     let mut start = 0;
-    let mut i = 0;
-    while i < opened.intervals {
+    for i in 0..opened.intervals {
         let size = table[i] / LABELS;
         let row = (table[i] % LABELS) as usize;
-        put_row(&mut *rows, i, start, size, ids[row]);
+        put_row(rows, i, [start, size, opened.ids[row]]);
         start += size;
-        i += 1;
     }
 }
 
+// `devices` and `intervals` are alike but for the rows that they count and put: one function for both would
+// have to take the count and the writer as functions.
 // Id, capacity and share of each device, by rising id. 14 to 16 as of a read; 17 where there are too few
 // places.
 pub fn devices(image: &[u8], rows: &mut [u64]) -> u32
@@ -61,11 +56,10 @@ pub fn devices(image: &[u8], rows: &mut [u64]) -> u32
     if made.refusal > 0 {
         return made.refusal;
     }
-    let opened = made.opened;
-    if rows.len() / 3 < opened.devices {
+    if rows.len() / 3 < made.opened.devices {
         return SHORT_BUFFER;
     }
-    put_devices(opened, &table, &mut *rows);
+    put_devices(made.opened, &table, rows);
     0
 }
 
@@ -79,10 +73,9 @@ pub fn intervals(image: &[u8], rows: &mut [u64]) -> u32
     if made.refusal > 0 {
         return made.refusal;
     }
-    let opened = made.opened;
-    if rows.len() / 3 < opened.intervals {
+    if rows.len() / 3 < made.opened.intervals {
         return SHORT_BUFFER;
     }
-    put_intervals(opened, &table, &mut *rows);
+    put_intervals(made.opened, &table, rows);
     0
 }

@@ -1,7 +1,6 @@
 -- What each test of a read shows.
 --
--- marks: marked_size (marked bytes hold a head)
--- faults: many_devices, many_intervals, another_size, not_valid (the bytes are not sound), sound (they are)
+-- faults: counts (of sound bytes), not_valid (the bytes are not sound), sound (they are)
 -- the answer: read_whole
 use mathlib.Core.Path.{◌≡◌, refl, sym, ap, ◌∙◌, subst}
 use mathlib.Core.Bool.{Bool, true, false}
@@ -19,27 +18,11 @@ use Rattle.images.specs.Promises.{ReadAs, accepted}
 use Rattle.image_bytes.specs.RowBytes.{pool_in}
 use Rattle.images.proofs.PoolsRead.{devices_few, intervals_few, pool_in_valid, valid_pool_in, pool_of_state_in}
 
-clash : (b : Bool) → b ≡ true → b ≡ false → ⊥
-clash b p q = let z : ◌≡◌ {A = ℕ} 0 1 = cc in omega arith
-
-pub marked_size : (xs : List ℕ) → marked xs ≡ true → head_size ≤ length xs
-marked_size xs m = go (leb head_size (length xs)) refl
-  where
-    go : (b : Bool) → leb head_size (length xs) ≡ b → head_size ≤ length xs
-    go true e = leb-true head_size (length xs) e
-    go false e = absurd (clash (marked xs) m (rw e))
-
 -- ---- faults
 
 module _ (xs : List ℕ) where
-  pub many_devices : (n : ℕ) → n ≡ devices_in xs → 256 < n → Sound xs → ⊥
-  many_devices n e h s = omega (arith, devices_few xs s.valid)
-
-  pub many_intervals : (q : ℕ) → q ≡ intervals_in xs → 4096 < q → Sound xs → ⊥
-  many_intervals q e h s = omega (arith, intervals_few xs s.valid)
-
-  pub another_size : (n q : ℕ) → n ≡ devices_in xs → q ≡ intervals_in xs → (length xs ≡ head_size + 6 * n + 6 * q → ⊥) → Sound xs → ⊥
-  another_size n q d i h s = h (omega (arith, s.exact))
+  pub counts : Sound xs → (devices_in xs ≤ 256) × (intervals_in xs ≤ 4096) × (length xs ≡ head_size + 6 * devices_in xs + 6 * intervals_in xs)
+  counts s = (devices_few xs s.valid, intervals_few xs s.valid, s.exact)
 
   pub not_valid : (p : Pool) → p ≡ pool_in xs → (ValidPool p → ⊥) → Sound xs → ⊥
   not_valid p e h s = h (subst ValidPool (sym e) (pool_in_valid xs s.valid))

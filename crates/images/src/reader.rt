@@ -10,7 +10,7 @@ ghost use Rattle.images.specs.Promises.{ReadAs, refusal, answer_of};
 ghost use Rattle.image_bytes.specs.RowBytes.{pool_in};
 
 use image_bytes::rows::{device_rows, interval_rows};
-use image_numbers::numbers::{number1, number2, number8};
+use image_numbers::numbers::number;
 use image_numbers::{HEAD, MARK, ROW, VERSION};
 use opened::Opened;
 use opened::making::without_devices;
@@ -23,10 +23,7 @@ use valid_pools::open_cleared;
 fn marked(image: &[u8]) -> bool
     ensures { result ≡ Format.marked image.now }
 {
-    if image.len() < HEAD {
-        return false;
-    }
-    number2(image, 0) * 256 + number1(image, 2) == MARK
+    image.len() >= HEAD && number::<3>(image, 0) == MARK
 }
 
 // The pool that the bytes of an image give, for n devices and q intervals.
@@ -39,21 +36,21 @@ fn described(image: &[u8], n: usize, q: usize) -> Pool
     let mut capacities = [0u32; MAX_DEVICES];
     let mut starts = [0u32; MAX_INTERVALS];
     let mut owners = [0u16; MAX_INTERVALS];
-    let range = number8(image, 5);
-    let limit = number2(image, 13) as u32;
+    let range = number::<8>(image, 5);
+    let limit = number::<2>(image, 13) as u32;
     let rows = &image[HEAD..];
     device_rows(rows, n, &mut ids, &mut capacities);
     let end = ROW * n;
     interval_rows(&rows[end..], q, &mut starts, &mut owners);
     Pool {
-        range: range,
-        limit: limit,
+        range,
+        limit,
         devices: n,
-        ids: ids,
-        capacities: capacities,
+        ids,
+        capacities,
         intervals: q,
-        starts: starts,
-        owners: owners,
+        starts,
+        owners,
     }
 }
 
@@ -69,11 +66,9 @@ pub struct ReadAnswer {
 fn refused(number: u32) -> ReadAnswer
     ensures { answer_of result ≡ refusal number }
 {
-    let made = fresh(1, 1);
-    let pool = made.pool;
     ReadAnswer {
         refusal: number,
-        pool: pool,
+        pool: fresh(1, 1).pool,
         opened: without_devices(1, 1),
     }
 }
@@ -89,18 +84,12 @@ pub fn read_open(image: &[u8], table: &mut [u64; ROOM]) -> ReadAnswer
     if !marked(image) {
         return refused(UNMARKED);
     }
-    if number2(image, 3) != VERSION {
+    if number::<2>(image, 3) != VERSION {
         return refused(OTHER_VERSION);
     }
-    let n = number2(image, 15) as usize;
-    let q = number2(image, 17) as usize;
-    if n > MAX_DEVICES {
-        return refused(FAULTY);
-    }
-    if q > MAX_INTERVALS {
-        return refused(FAULTY);
-    }
-    if image.len() != HEAD + ROW * n + ROW * q {
+    let n = number::<2>(image, 15) as usize;
+    let q = number::<2>(image, 17) as usize;
+    if n > MAX_DEVICES || q > MAX_INTERVALS || image.len() != HEAD + ROW * n + ROW * q {
         return refused(FAULTY);
     }
     let pool = described(image, n, q);
@@ -108,11 +97,10 @@ pub fn read_open(image: &[u8], table: &mut [u64; ROOM]) -> ReadAnswer
     if !checked.valid {
         return refused(FAULTY);
     }
-    let opened = checked.opened;
     ReadAnswer {
         refusal: 0,
-        pool: pool,
-        opened: opened,
+        pool,
+        opened: checked.opened,
     }
 }
 
@@ -122,9 +110,8 @@ pub fn read(image: &[u8]) -> PoolAnswer
 {
     let mut table = blank();
     let made = read_open(image, &mut table);
-    let pool = made.pool;
     PoolAnswer {
         refusal: made.refusal,
-        pool: pool,
+        pool: made.pool,
     }
 }

@@ -21,7 +21,7 @@ pub fn store(pool: Pool, buffer: &mut [u8]) -> WriteAnswer
     if buffer.len() < size {
         return WriteAnswer::Refused(SHORT_BUFFER);
     }
-    put_image(pool, &mut *buffer);
+    put_image(pool, buffer);
     WriteAnswer::Written(size)
 }
 
@@ -33,5 +33,5 @@ pub fn write(pool: Pool, buffer: &mut [u8]) -> WriteAnswer
     if !valid(pool) {
         return WriteAnswer::Refused(OUTSIDE);
     }
-    store(pool, &mut *buffer)
+    store(pool, buffer)
 }

@@ -5,7 +5,7 @@
 ghost use Rattle.std.specs.Prelude.{◌≡◌, ◌++◌, ◌≤◌, length, drop};
 ghost use Rattle.opened_lookups.specs.Promises.{OpenedFrom, OwnedIn, CopiedOneIn};
 
-use answers::put3;
+use answers::put;
 use lookup_numbers::{ROW, counters_of, put_counters, put_owner, put_row};
 use lookups::{copies_in, owner_in};
 use slicing::{MAX_INTERVALS, SHORT_BUFFER};
@@ -47,18 +47,16 @@ pub fn open(image: &[u8], starts: &mut [u32], owners: &mut [u16], numbers: &mut 
     }
     let made = images::read(image);
     if made.refusal > 0 {
-        put3(&mut *numbers, 0, 0, 0);
+        put(numbers, [0; 3]);
         return made.refusal;
     }
     let pool = made.pool;
     let points = pool.starts;
     let ids = pool.owners;
     copy_table(&points, &ids, &mut *starts, &mut *owners);
-    put3(
-        &mut *numbers,
-        pool.range,
-        pool.intervals as u64,
-        pool.devices as u64,
+    put(
+        numbers,
+        [pool.range, pool.intervals as u64, pool.devices as u64],
     );
     0
 }

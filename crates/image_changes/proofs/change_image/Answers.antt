@@ -11,7 +11,7 @@ returns-then-answer-lt3 c =
 pub returns-then-made-gt0 : goal.returns-then-made-gt0
 returns-then-made-gt0 c =
     changed_unread c.args.image.now (change_of c.args.call) c.args.next.now c.args.list.now c.args.answer.now
-    c.read_open-made.ensures.read c.if-answer-lt3.false c.if-made-gt0.true c.put3.ensures
+    c.read_open-made.ensures.read c.if-answer-lt3.false c.if-made-gt0.true c.put.ensures
 
 pub returns : goal.returns
 returns c =

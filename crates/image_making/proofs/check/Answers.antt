@@ -4,4 +4,4 @@ use Rattle.image_making.proofs.check.Goals as goal
 
 pub returns : goal.returns
 returns c =
-    on_image_number c.args.image.now c.read-made.result c.read-made.ensures
+    on_image_number c.args.image.now c.read.result c.read.ensures

@@ -21,11 +21,11 @@ pub returns-then-made-gt0 : goal.returns-then-made-gt0
 returns-then-made-gt0 c =
     let a = c.args in
     opened_refused a.image.now a.starts.now a.owners.now a.numbers.now c.read-made.result c.read-made.ensures
-    c.if-starts-lt-MAX_INTERVALS.false c.if-owners-lt-MAX_INTERVALS.false c.if-numbers-lt3.false _ c.if-made-gt0.true c.put3.ensures
+    c.if-starts-lt-MAX_INTERVALS.false c.if-owners-lt-MAX_INTERVALS.false c.if-numbers-lt3.false _ c.if-made-gt0.true c.put.ensures
 
 pub returns : goal.returns
 returns c =
     let a = c.args in
     opened_stored a.image.now a.starts.now a.owners.now a.numbers.now c.read-made.result c.read-made.ensures
     c.if-starts-lt-MAX_INTERVALS.false c.if-owners-lt-MAX_INTERVALS.false c.if-numbers-lt3.false _ _ _ c.if-made-gt0.false
-    c.copy_table.ensures.starts c.copy_table.ensures.owners c.put3-2.ensures
+    c.copy_table.ensures.starts c.copy_table.ensures.owners c.put-2.ensures

@@ -25,4 +25,4 @@ put_intervals-requires c =
 
 pub returns : goal.returns
 returns c =
-    image_put c.args.pool c.requires.0 c.args.buffer.now _ _ _ c.put_head.ensures c.put_devices.ensures c.put_intervals.ensures
+    image_put c.args.pool c.requires.0 c.args.buffer.now _ _ _ (rw c.from.ensures at c.put_head.ensures) c.put_devices.ensures c.put_intervals.ensures

@@ -9,7 +9,7 @@ returns-then-answer-lt1 c =
 pub returns-then-made-gt0 : goal.returns-then-made-gt0
 returns-then-made-gt0 c =
     owned_refused c.args.image.now c.args.point c.args.answer.now c.read-made.result c.read-made.ensures c.if-answer-lt1.false _
-    c.if-made-gt0.true c.put1.ensures
+    c.if-made-gt0.true c.put.ensures
 
 pub returns : goal.returns
 returns c =

@@ -5,5 +5,5 @@ use Rattle.image_numbers.proofs.head.put_head.Goals as goal
 pub returns : goal.returns
 returns c =
     let a = c.args in
-    head_put a.range a.limit a.n a.q a.buffer.now _ _ _ _ _ _ _ c.put2.ensures c.put1.ensures c.put2-2.ensures c.put8.ensures
-    c.put2-3.ensures c.put2-4.ensures c.put2-5.ensures
+    head_put a.range a.limit a.n a.q a.buffer.now _ _ _ _ _ _ c.put.ensures c.put-2.ensures c.put-3.ensures c.put-4.ensures
+    c.put-5.ensures c.put-6.ensures

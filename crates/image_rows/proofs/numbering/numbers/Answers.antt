@@ -10,9 +10,9 @@ returns-then-answer-lt4 c =
 pub returns-then-made-gt0 : goal.returns-then-made-gt0
 returns-then-made-gt0 c =
     let a = c.args in
-    numbered_refused a.image.now a.answer.now c.read-made.result c.read-made.ensures c.if-answer-lt4.false _ c.if-made-gt0.true c.put4.ensures
+    numbered_refused a.image.now a.answer.now c.read-made.result c.read-made.ensures c.if-answer-lt4.false _ c.if-made-gt0.true c.put.ensures
 
 pub returns : goal.returns
 returns c =
     let a = c.args in
-    numbered_told a.image.now a.answer.now c.read-made.result c.read-made.ensures c.if-answer-lt4.false _ c.if-made-gt0.false c.put4-2.ensures
+    numbered_told a.image.now a.answer.now c.read-made.result c.read-made.ensures c.if-answer-lt4.false _ c.if-made-gt0.false (rw c.from.ensures at c.put-2.ensures)

@@ -21,4 +21,4 @@ returns c =
     let a = c.args in
     rw (to_z-of_z w64 c.report_of-told.result.difference fits)
     (reported_found a.image.now a.id a.answer.now a.difference.now c.if-answer-lt2.false _ c.find_on-device.ensures c.report_of-told.result
-    c.report_of-told.ensures _ c.put2.ensures)
+    c.report_of-told.ensures _ c.put.ensures)

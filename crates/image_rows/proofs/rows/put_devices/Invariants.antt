@@ -1,7 +1,7 @@
 -- `image_rows::rows::put_devices` meets its contract. The loop's invariant: the first i rows are written, and the rest is as it was.
 use mathlib.Core.Path.{◌≡◌}
 use mathlib.Core.List.{◌++◌}
-use Prim.Native.Nat.{◌*◌, ◌-◌, ◌≤◌}
+use Prim.Native.Nat.{◌*◌, ◌≤◌}
 use lib.ListN.{length, drop}
 use Rattle.slicing.specs.ShareRule.{share_of}
 use Rattle.slicing_core.specs.Rows.{device_rows}
@@ -11,10 +11,6 @@ use Rattle.image_rows.proofs.rows.put_devices.Given as goal
 
 abbrev pub invariant-loop-i : goal.invariant-loop-i
 invariant-loop-i l =
-    (l.i ≤ l.opened.devices) × (length l.rows ≡ length l.initial.rows)
+    (length l.rows ≡ length l.initial.rows)
     × (l.opened.devices ≤ 256)
     × (l.rows ≡ devices_with (share_of l.opened.range (devices_in l.opened)) (device_rows l.opened.ids l.opened.capacities 0 l.i) ++ drop (3 * l.i) l.initial.rows)
-
-abbrev pub decreases-loop-i : goal.decreases-loop-i
-decreases-loop-i l =
-    l.opened.devices - l.i

@@ -2,7 +2,7 @@
 -- the next interval starts behind them.
 use mathlib.Core.Path.{◌≡◌}
 use mathlib.Core.List.{◌++◌}
-use Prim.Native.Nat.{◌*◌, ◌-◌, ◌≤◌}
+use Prim.Native.Nat.{◌*◌, ◌≤◌}
 use lib.ListN.{length, drop}
 use Rattle.slicing.specs.Runs.{total, relabel, intervals}
 use Rattle.slicing_core.specs.Rows.{at}
@@ -12,10 +12,6 @@ use Rattle.image_rows.proofs.rows.put_intervals.Given as goal
 
 abbrev pub invariant-loop-i : goal.invariant-loop-i
 invariant-loop-i l =
-    (l.i ≤ l.opened.intervals) × (length l.rows ≡ length l.initial.rows) × (l.start ≡ total (runs l.table 0 l.i))
+    (length l.rows ≡ length l.initial.rows) × (l.start ≡ total (runs l.table 0 l.i))
     × (l.opened.intervals ≤ 4096)
     × (l.rows ≡ intervals_as (intervals 0 (relabel (at l.opened.ids) (runs l.table 0 l.i))) ++ drop (3 * l.i) l.initial.rows)
-
-abbrev pub decreases-loop-i : goal.decreases-loop-i
-decreases-loop-i l =
-    l.opened.intervals - l.i

@@ -6,6 +6,6 @@ pub returns : goal.returns
 returns c =
     let intervals = c.interval_rows in
     let devices = c.device_rows in
-    described_pool c.args.image.now c.args.n c.args.q c.number8-range.result c.number2-limit.result
-    _ _ _ _ c.requires.n_value.0 c.requires.n_value.1 c.number8-range.ensures c.number2-limit.ensures.0 devices.ensures.ids
+    described_pool c.args.image.now c.args.n c.args.q c.number-range.result c.number-limit.result
+    _ _ _ _ c.requires.n_value.0 c.requires.n_value.1 c.number-range.ensures.0 c.number-limit.ensures.0 devices.ensures.ids
     devices.ensures.capacities intervals.ensures.starts intervals.ensures.owners

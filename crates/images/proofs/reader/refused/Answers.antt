@@ -5,4 +5,4 @@ use Rattle.images.proofs.reader.refused.Goals as goal
 
 pub returns : goal.returns
 returns c =
-    ap {B = PoolAnswer} (λ p. record { refusal = c.args.number; pool = p }) c.fresh-made.ensures.pool
+    ap {B = PoolAnswer} (λ p. record { refusal = c.args.number; pool = p }) c.fresh.ensures.pool
