@@ -5,7 +5,7 @@ use crate::transcripts::LONGEST;
 use history_lines::{LineAnswer, part_at};
 use history_steps::advance;
 use opened::making::without_devices;
-use packed_runs::ROOM;
+use packed_runs::blank;
 use pools::{PoolAnswer, close};
 use slicing::OUTSIDE;
 
@@ -14,9 +14,9 @@ use slicing::OUTSIDE;
 pub fn pool_after(text: &[u8]) -> PoolAnswer
     ensures { Left text.now result }
 {
-    let mut table = [0u64; ROOM];
-    let mut work = [0u64; ROOM];
-    let mut next = [0u64; ROOM];
+    let mut table = blank();
+    let mut work = blank();
+    let mut next = blank();
     let mut begun = false;
     let mut pool = without_devices(1, 1);
     if text.len() > LONGEST {
@@ -26,12 +26,12 @@ pub fn pool_after(text: &[u8]) -> PoolAnswer
         };
     }
     let mut from = 0;
+    // A while: a line that was read says where the next one starts.
     while from < text.len() {
         let part = part_at(text, from);
-        let said = part.said;
-        match said {
+        match part.said {
             LineAnswer::Refused(_) => from = part.next,
-            _ => {
+            said => {
                 let step = advance(begun, pool, said, &mut table, &mut work, &mut next);
                 begun = step.begun;
                 pool = step.pool;

@@ -5,9 +5,10 @@ ghost use Rattle.history.specs.Promises.{Transcribed};
 ghost use Rattle.history.specs.Replay.{printed_table, replayed};
 
 use history_lines::{LineAnswer, part_at};
-use history_printing::{put_line, put_rows, put_text, wide32};
+use history_printing::{put_line, put_rows, put_text};
 use history_steps::advance;
 use opened::making::without_devices;
+use packed_runs::blank;
 use pools::{Pool, close};
 use slicing::SHORT_BUFFER;
 
@@ -30,14 +31,12 @@ fn put_table(out: &mut [u8], place: usize, pool: Pool) -> usize
     ensures place { result ≡ place + length (printed_table (state_of pool)) }
     ensures table { out.new ≡ take place out.old ++ printed_table (state_of pool) ++ drop (place + length (printed_table (state_of pool))) out.old }
 {
-    let starts = pool.starts;
-    let owners = pool.owners;
-    let rows = put_text(&mut *out, place, b"table\n");
+    let rows = put_text(out, place, b"table\n");
     put_rows(
-        &mut *out,
+        out,
         rows,
-        &starts,
-        &owners,
+        &pool.starts,
+        &pool.owners,
         pool.intervals,
         pool.range,
     )
@@ -50,30 +49,27 @@ fn replay(text: &[u8], out: &mut [u8]) -> usize
     ensures place { result ≡ length (replayed text.now) }
     ensures text { out.new ≡ replayed text.now ++ drop (length (replayed text.now)) out.old }
 {
-    let mut table = [0u64; packed_runs::ROOM];
-    let mut work = [0u64; packed_runs::ROOM];
-    let mut next = [0u64; packed_runs::ROOM];
+    let mut table = blank();
+    let mut work = blank();
+    let mut next = blank();
     let mut begun = false;
     let mut pool = without_devices(1, 1);
     let mut line = 1;
     let mut from = 0;
     let mut place = 0;
+    // A while: a line that was read says where the next one starts.
     while from < text.len() {
         let part = part_at(text, from);
-        let said = part.said;
-        match said {
+        match part.said {
             LineAnswer::Refused(refusal) => {
-                place = put_line(&mut *out, place, line, wide32(refusal), 0, 0);
+                place = put_line(out, place, &[line, u64::from(refusal), 0, 0]);
             }
-            _ => {
+            said => {
                 let step = advance(begun, pool, said, &mut table, &mut work, &mut next);
                 place = put_line(
-                    &mut *out,
+                    out,
                     place,
-                    line,
-                    wide32(step.refusal),
-                    step.moved,
-                    step.count as u64,
+                    &[line, u64::from(step.refusal), step.moved, step.count as u64],
                 );
                 begun = step.begun;
                 pool = step.pool;
@@ -82,7 +78,7 @@ fn replay(text: &[u8], out: &mut [u8]) -> usize
         line += 1;
         from = part.next;
     }
-    put_table(&mut *out, place, close(pool, &table))
+    put_table(out, place, close(pool, &table))
 }
 
 // Writes what `slices` prints of a text, and answers how many bytes. More than 65,536 bytes give `too
@@ -95,7 +91,7 @@ pub fn transcript(text: &[u8], out: &mut [u8]) -> TranscriptAnswer
         return TranscriptAnswer::Refused(SHORT_BUFFER);
     }
     if text.len() > LONGEST {
-        return TranscriptAnswer::Printed(put_text(&mut *out, 0, b"too long\n"));
+        return TranscriptAnswer::Printed(put_text(out, 0, b"too long\n"));
     }
-    TranscriptAnswer::Printed(replay(text, &mut *out))
+    TranscriptAnswer::Printed(replay(text, out))
 }

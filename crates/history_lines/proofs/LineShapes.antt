@@ -1,29 +1,37 @@
 -- Laws of the lines of a history: what the functions that read a line need.
 --
--- same: same_length (texts of two lengths)
--- words: line_one, line_remove, line_two, line_three, line_four (by the number of words); line_read (what a line says is its reply)
+-- same: same_told (what `==` on slices answered)
+-- words: three_none (a first word that is none of the three); line_one, line_remove, line_two, line_three, line_four (by the number of words); line_read (what a line says is its reply)
 use mathlib.Core.Path.{◌≡◌, refl, sym, ap, ◌∙◌}
-use mathlib.Core.Bool.{true, false}
+use mathlib.Core.Bool.{Bool, true, false, ◌&&◌}
 use mathlib.Core.List.{List, [], ◌∷◌}
-use Prim.Native.Nat.{ℕ, suc}
+use Prim.Native.Nat.{ℕ}
 use lib.Dec.{eqb}
 use lib.ListN.{length, take}
+use Rattle.std.specs.Cmp.Lexicographic.{pointwise}
 use Rattle.history_numbers.specs.Text.{space, split, number_in}
-use Rattle.history_lines.specs.Lines.{line_reply, same, remove_word, remove_line, three_words, line_of, line_in, LineRead}
+use Rattle.history_lines.specs.Lines.{line_reply, same, range_word, add_word, remove_word, resize_word, remove_line, three_words, line_of, line_in, LineRead}
 use Rattle.history_lines.specs.declared.lines.LineAnswer.{LineAnswer}
 use Rattle.history_lines.specs.declared.lines.LineAnswer.TheVariants.{Refused}
-use Rattle.history_numbers.proofs.NumberWords.{and_false}
 use Rattle.history_numbers.proofs.Splitting.{split_some, Found, behind, cut_made, found_whole, cut_split}
 
 -- ---- same
 
-pub same_length : (a b : List ℕ) → (length a ≡ length b → ⊥) → same a b ≡ false
-same_length [] [] h = absurd (h refl)
-same_length [] (y ∷ ys) h = refl
-same_length (x ∷ xs) [] h = refl
-same_length (x ∷ xs) (y ∷ ys) h = rw (same_length xs ys (λ e. h (ap suc e))) (and_false (eqb x y))
+-- `==` on slices compares as `same` does
+same_eq : (a b : List ℕ) → same a b ≡ pointwise eqb a b
+same_eq [] [] = refl
+same_eq [] (y ∷ ys) = refl
+same_eq (x ∷ xs) [] = refl
+same_eq (x ∷ xs) (y ∷ ys) = ap (λ r. eqb x y && r) (same_eq xs ys)
+
+-- what it answered of a text k and the word w, which stands in the slice b
+pub same_told : (k w : List ℕ) {b : List ℕ} {r t : Bool} → r ≡ pointwise eqb k b → b ≡ w → r ≡ t → same k w ≡ t
+same_told k w e f g = same_eq k w ∙ sym (rw f at e) ∙ g
 
 -- ---- words
+
+pub three_none : (k a b : List ℕ) → same k range_word ≡ false → same k add_word ≡ false → same k resize_word ≡ false → Refused 1 ≡ three_words k a b
+three_none k a b e f g = rw (e, f, g)
 
 line_of_more : (k a b : List ℕ) (ps : List (List ℕ)) → (ps ≡ [] → ⊥) → line_of (k ∷ a ∷ b ∷ ps) ≡ Refused 1
 line_of_more k a b [] h = absurd (h refl)

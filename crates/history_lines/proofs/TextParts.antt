@@ -5,6 +5,7 @@
 --
 -- part_cases                 a part is one of the two
 -- part_fits                  what it says is within its limits
+-- part_refused               the number that refuses it is at most 2
 -- part_above, part_within    the next one starts behind its place, within the text
 use mathlib.Core.Path.{◌≡◌, refl, sym, subst}
 use mathlib.Core.Bool.{Bool, true, false, cond}
@@ -46,6 +47,9 @@ module _ (xs : List ℕ) (n : ℕ) where
 
     pub part_fits : Fits p.said
     part_fits = part_cases (λ k. Fits k.said) (λ b. line_in_fits (take end_at rest_at)) (λ b. shapeless)
+
+    pub part_refused : (m : ℕ) → p.said ≡ Refused m → m ≤ 2
+    part_refused m e = (subst Fits e part_fits).1
 
     module _ (l : n < length xs) where
       pub part_above : n < p.next

@@ -1,7 +1,6 @@
 // Lines of a history.
 ghost use Rattle.std.specs.Prelude.{◌≡◌, ◌≤◌, length};
 ghost use Rattle.slicing.specs.Limits.{device_outside};
-ghost use Rattle.history_lines.specs.Lines as Lines;
 ghost use Rattle.history_numbers.specs.Capacities.{capacity_reply};
 ghost use Rattle.history_lines.specs.Lines.{pair_line, remove_line, range_outside, three_words, LineRead};
 ghost use Rattle.history_lines.specs.Cuts.{part_at};
@@ -21,23 +20,6 @@ pub enum LineAnswer {
     Refused(u32),
 }
 
-// Whether two texts are the same.
-fn same(a: &[u8], b: &[u8]) -> bool
-    ensures { result ≡ Lines.same a.now b.now }
-{
-    if a.len() != b.len() {
-        return false;
-    }
-    let mut i = 0;
-    while i < a.len() {
-        if a[i] != b[i] {
-            return false;
-        }
-        i += 1;
-    }
-    true
-}
-
 fn range_line(first: &[u8], second: &[u8]) -> LineAnswer
     ensures { result ≡ pair_line Range range_outside (number_in first.now) (number_in second.now) }
 {
@@ -47,10 +29,7 @@ fn range_line(first: &[u8], second: &[u8]) -> LineAnswer
     let Parsed::Number(limit) = number(second) else {
         return LineAnswer::Refused(SHAPELESS);
     };
-    if outside(MAX_RANGE, range) {
-        return LineAnswer::Refused(OUTSIDE);
-    }
-    if outside(MAX_LIMIT, limit) {
+    if outside(MAX_RANGE, range) || outside(MAX_LIMIT, limit) {
         return LineAnswer::Refused(OUTSIDE);
     }
     LineAnswer::Range(range, limit)
@@ -108,13 +87,13 @@ fn remove_line(word: &[u8]) -> LineAnswer
 fn three_words(key: &[u8], first: &[u8], second: &[u8]) -> LineAnswer
     ensures { result ≡ three_words key.now first.now second.now }
 {
-    if same(key, b"range") {
+    if key == b"range".as_slice() {
         return range_line(first, second);
     }
-    if same(key, b"add") {
+    if key == b"add".as_slice() {
         return add_line(first, second);
     }
-    if same(key, b"resize") {
+    if key == b"resize".as_slice() {
         return resize_line(first, second);
     }
     LineAnswer::Refused(SHAPELESS)
@@ -129,17 +108,15 @@ pub fn line(text: &[u8]) -> LineAnswer
     if end == text.len() {
         return LineAnswer::Refused(SHAPELESS);
     }
-    let next = end + 1;
-    let rest = &text[next..];
+    let rest = &text[end + 1..];
     let middle = find(rest, b' ');
     if middle == rest.len() {
-        if same(&text[..end], b"remove") {
+        if &text[..end] == b"remove".as_slice() {
             return remove_line(rest);
         }
         return LineAnswer::Refused(SHAPELESS);
     }
-    let last = middle + 1;
-    let tail = &rest[last..];
+    let tail = &rest[middle + 1..];
     if find(tail, b' ') != tail.len() {
         return LineAnswer::Refused(SHAPELESS);
     }

@@ -4,18 +4,22 @@
 --   behind xs n            what stands behind the place n of xs, as the code makes that part
 --   Cut s xs n ys          xs is cut at n, before its end, and ys stands behind
 --
--- cut_at: cut_at_below (at most the length)
+-- cut_at: cut_at_below (at most the length), cut_found (what `position` answers)
 -- split: split_whole (no such byte), split_cut (at the first such byte), split_some (at least one part)
 -- parts: part_back (a part of a slice from a place on); cut_made, found_whole, cut_split
 use mathlib.Core.Path.{◌≡◌, refl, sym, ap, ◌∙◌}
-use mathlib.Core.Bool.{Bool, true, false}
+use mathlib.Core.Bool.{Bool, true, false, cond}
 use mathlib.Core.List.{List, [], ◌∷◌}
 use Prim.Native.Nat.{ℕ, suc, ◌+◌, ◌-◌, ◌≤◌, ◌<◌}
 use native.Mathlib.Omega.{arith}
 use native.Mathlib.Numerals.{add-one}
-use lib.Dec.{eqb}
+use lib.Dec.{eqb, ltb}
 use lib.ListN.{length, take, drop, length-drop}
 use lib.Seq.{take_all}
+use borrow.Author.Tests.{ltb-false}
+use Rattle.std.proofs.Common.{Option, Some, None, unwrap_or}
+use Rattle.std.specs.List.{position_or_len}
+use Rattle.std.proofs.lemmas.List.Recursion.{is_position_or_len}
 use Rattle.history_numbers.specs.Cuts.{cut_at}
 use Rattle.history_numbers.specs.Text.{before, split}
 
@@ -28,6 +32,23 @@ cut_at_below s (b ∷ bs) = go (eqb b s) refl (cut_at_below s bs)
     go : (t : Bool) → eqb b s ≡ t → cut_at s bs ≤ length bs → cut_at s (b ∷ bs) ≤ suc (length bs)
     go true e h = rw e (omega arith)
     go false e h = rw e (omega arith)
+
+-- what `position` answers, and the length where it finds none
+pub cut_found : (s : ℕ) (xs : List ℕ) (r : Option ℕ) (n : ℕ)
+    → r ≡ cond (ltb (position_or_len (λ b. eqb b s) xs) (length xs)) (Some (position_or_len (λ b. eqb b s) xs)) None
+    → n ≡ unwrap_or r (length xs) → (n ≡ cut_at s xs) × (n ≤ length xs)
+cut_found s xs r n e u = rw (u, e, ← same) (go (ltb (cut_at s xs) (length xs)) refl)
+  where
+    one_more : (k : ℕ) → suc k ≡ 1 + k
+    one_more k = omega arith
+
+    same : cut_at s xs ≡ position_or_len (λ b. eqb b s) xs
+    same = is_position_or_len (cut_at s) (λ b. eqb b s) refl (λ b bs. ap (cond (eqb b s) 0) (one_more (cut_at s bs))) xs
+
+    go : (t : Bool) → ltb (cut_at s xs) (length xs) ≡ t
+        → (unwrap_or (cond t (Some (cut_at s xs)) None) (length xs) ≡ cut_at s xs) × (unwrap_or (cond t (Some (cut_at s xs)) None) (length xs) ≤ length xs)
+    go true e = (refl, cut_at_below s xs)
+    go false e = (omega (arith, ltb-false (cut_at s xs) (length xs) e, cut_at_below s xs), omega arith)
 
 -- ---- split
 

@@ -21,25 +21,11 @@ pub enum CapacityAnswer {
     Refused(u32),
 }
 
-// A byte that was read, as a number.
-fn wide(x: u8) -> u64
-    ensures { (result ≡ x) × (result < 256) }
-{
-    x as u64
-}
-
 // The place of the first such byte, the length where there is none.
 pub fn find(text: &[u8], byte: u8) -> usize
     ensures { (result ≡ cut_at byte text.now) × (result ≤ length text.now) }
 {
-    let mut i = 0;
-    while i < text.len() {
-        if text[i] == byte {
-            return i;
-        }
-        i += 1;
-    }
-    i
+    text.iter().position(|b| *b == byte).unwrap_or(text.len())
 }
 
 // The number that at most ten digits spell.
@@ -49,17 +35,11 @@ fn digits(word: &[u8]) -> Parsed
     ensures by_index { (n : ℕ) → result ≡ Number n → n < 10 ^ length word.now }
 {
     let mut value = 0;
-    let mut i = 0;
-    while i < word.len() {
-        let digit = wide(word[i]);
-        if digit < 48 {
+    for byte in word {
+        if !byte.is_ascii_digit() {
             return Parsed::Shapeless;
         }
-        if digit > 57 {
-            return Parsed::Shapeless;
-        }
-        value = 10 * value + (digit - 48);
-        i += 1;
+        value = 10 * value + u64::from(*byte - b'0');
     }
     Parsed::Number(value)
 }
@@ -70,16 +50,11 @@ pub fn number(word: &[u8]) -> Parsed
     ensures by_index { (n : ℕ) → result ≡ Number n → n < 10 ^ 10 }
 {
     let n = word.len();
-    if n < 1 {
+    if n < 1 || n > 10 {
         return Parsed::Shapeless;
     }
-    if n > 10 {
+    if n > 1 && word[0] == b'0' {
         return Parsed::Shapeless;
-    }
-    if n > 1 {
-        if word[0] == b'0' {
-            return Parsed::Shapeless;
-        }
     }
     digits(word)
 }
@@ -90,22 +65,17 @@ fn fraction(word: &[u8]) -> Parsed
     ensures by_index { (n : ℕ) → result ≡ Number n → n < 1000 }
 {
     let n = word.len();
-    if n == 0 {
-        return Parsed::Shapeless;
-    }
-    if n > 3 {
+    if n == 0 || n > 3 {
         return Parsed::Shapeless;
     }
     let Parsed::Number(value) = digits(word) else {
         return Parsed::Shapeless;
     };
-    if n == 1 {
-        return Parsed::Number(100 * value);
+    match n {
+        1 => Parsed::Number(100 * value),
+        2 => Parsed::Number(10 * value),
+        _ => Parsed::Number(value),
     }
-    if n == 2 {
-        return Parsed::Number(10 * value);
-    }
-    Parsed::Number(value)
 }
 
 // A capacity in thousandths of a TB, whatever its size. The largest is that of `9999999999.999`.
@@ -119,8 +89,7 @@ fn thousandths(word: &[u8]) -> Parsed
     if end == word.len() {
         return Parsed::Number(1000 * whole);
     }
-    let start = end + 1;
-    let Parsed::Number(rest) = fraction(&word[start..]) else {
+    let Parsed::Number(rest) = fraction(&word[end + 1..]) else {
         return Parsed::Shapeless;
     };
     Parsed::Number(1000 * whole + rest)

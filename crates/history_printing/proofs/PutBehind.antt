@@ -3,15 +3,18 @@
 --   Put b i xs b'       b' is b with xs put at place i
 --   put_byte (one byte), put_behind (bytes behind bytes), put_none, put_same (the same bytes), put_room (the buffer's length)
 --   Written b i xs b' j     the same, and j is the place behind xs
---   fields_behind (a field, and the fields behind it), length_end (the length of a field), length_three, length_four (of a line)
-use mathlib.Core.Path.{◌≡◌, sym, ap, ◌∙◌, subst}
+--   written_behind (bytes behind bytes), length_end (the length of a field)
+--   fields_left ns          the numbers of a line that are still to be written
+--   Line                    a line of which the first i numbers are written; line_none, line_room, line_more, line_all
+use mathlib.Core.Path.{◌≡◌, refl, sym, ap, ◌∙◌, subst}
 use mathlib.Core.List.{List, [], ◌∷◌, ◌++◌, append_assoc, append-nil}
-use Prim.Native.Nat.{ℕ, ◌+◌, ◌≤◌, ◌<◌}
+use Prim.Native.Nat.{ℕ, suc, ◌+◌, ◌≤◌, ◌<◌}
 use native.Mathlib.Omega.{arith}
 use native.Mathlib.Nat.{add-zero}
 use native.Mathlib.Numerals.{add-one}
-use lib.ListN.{length, set, take, drop, length-append, length-take, length-drop, take-append-drop}
-use lib.Seq.{append_snoc, set_split}
+use lib.ListN.{length, get_or, set, take, drop, length-append, length-take, length-drop, take-append-drop}
+use lib.Seq.{append_snoc, set_split, drop-cons}
+use Rattle.std.proofs.lemmas.List.{drop_all}
 use Rattle.slicing_core.proofs.Fronts.{front_put}
 use Rattle.history_numbers.specs.Text.{line_end, space}
 use Rattle.history_printing.specs.Printing.{decimal, fields}
@@ -54,26 +57,75 @@ put_room b b' xs i h p =
 abbrev pub Written : List ℕ → ℕ → List ℕ → List ℕ → ℕ → Type 0
 Written b i xs b' j = (j ≡ i + length xs) × Put b i xs b'
 
-fields_cons : (n m : ℕ) (ns : List ℕ) → (decimal n ++ space ∷ []) ++ fields (m ∷ ns) ≡ fields (n ∷ m ∷ ns)
-fields_cons n m ns = append_assoc (decimal n) (space ∷ []) (fields (m ∷ ns))
-
 pub length_end : (n e : ℕ) → length (decimal n ++ e ∷ []) ≡ length (decimal n) + 1
 length_end n e = length-append (decimal n) (e ∷ [])
 
-length_fields_more : (n m : ℕ) (ns : List ℕ) → length (fields (n ∷ m ∷ ns)) ≡ length (decimal n) + 1 + length (fields (m ∷ ns))
-length_fields_more n m ns = omega (arith, length-append (decimal n) (space ∷ fields (m ∷ ns)))
+written_behind : (b b' b'' xs ys : List ℕ) (i j k : ℕ) → i ≤ length b → Written b i xs b' j → Written b' j ys b'' k → Written b i (xs ++ ys) b'' k
+written_behind b b' b'' xs ys i j k h w v = (omega (arith, w.0, v.0, length-append xs ys), put_behind b b' b'' xs ys i j h w.0 w.1 v.1)
 
-pub length_three : (a b c : ℕ) → length (fields (a ∷ b ∷ c ∷ [])) ≡ length (decimal a) + length (decimal b) + length (decimal c) + 3
-length_three a b c = omega (arith, length_fields_more a b (c ∷ []), length_fields_more b c [], length_end c line_end)
+-- ---- the loop that writes a line
 
-pub length_four : (a b c d : ℕ)
-    → length (fields (a ∷ b ∷ c ∷ d ∷ [])) ≡ length (decimal a) + length (decimal b) + length (decimal c) + length (decimal d) + 4
-length_four a b c d = omega (arith, length_fields_more a b (c ∷ d ∷ []), length_three b c d)
+-- the line's numbers ns that are still to be written: of none, nothing
+abbrev pub fields_left : List ℕ → List ℕ
+fields_left [] = []
+fields_left (n ∷ ns) = fields (n ∷ ns)
 
-pub fields_behind : (b b' b'' : List ℕ) (n m : ℕ) (ns : List ℕ) (i j k : ℕ) → i ≤ length b → Written b i (decimal n ++ space ∷ []) b' j
-    → Written b' j (fields (m ∷ ns)) b'' k → Written b i (fields (n ∷ m ∷ ns)) b'' k
-fields_behind b b' b'' n m ns i j k h w v = (
-  omega (arith, w.0, v.0, length_end n space, length_fields_more n m ns),
-  put_same b b'' ((decimal n ++ space ∷ []) ++ fields (m ∷ ns)) (fields (n ∷ m ∷ ns)) i (fields_cons n m ns)
-      (put_behind b b' b'' (decimal n ++ space ∷ []) (fields (m ∷ ns)) i j h w.0 w.1 v.1),
-)
+fields_first : (n e : ℕ) (ns : List ℕ) → (0 < length ns → e ≡ space) → (length ns ≡ 0 → e ≡ line_end)
+    → (decimal n ++ e ∷ []) ++ fields_left ns ≡ fields (n ∷ ns)
+fields_first n e [] f g = append-nil (decimal n ++ e ∷ []) ∙ ap (λ x. decimal n ++ x ∷ []) (g refl)
+fields_first n e (m ∷ ns) f g = append_assoc (decimal n) (e ∷ []) (fields (m ∷ ns)) ∙ ap (λ x. decimal n ++ x ∷ fields (m ∷ ns)) (f (omega arith))
+
+fields_none : (i : ℕ) (ns : List ℕ) → length ns ≤ i → fields_left (drop i ns) ≡ []
+fields_none i ns h = rw (drop_all i ns h)
+
+fields_all : (ns : List ℕ) → 1 ≤ length ns → fields_left ns ≡ fields ns
+fields_all [] h = absurd (omega arith)
+fields_all (n ∷ ns) h = refl
+
+pub record Line (before : List ℕ) (place : ℕ) (ns after : List ℕ) (last i : ℕ) : Type 0 where
+  pub room : last + length (fields_left (drop i ns)) ≤ length after
+  pub same : length after ≡ length before
+  pub rest : (b : List ℕ) (j : ℕ) → Written after last (fields_left (drop i ns)) b j → Written before place (fields_left ns) b j
+
+pub line_none : (before : List ℕ) (place : ℕ) (ns : List ℕ) → 1 ≤ length ns → place + length (fields ns) ≤ length before → Line before place ns before place 0
+line_none before place ns h l = record { room = omega (arith, ap length (fields_all ns h)); same = refl; rest = λ b j w. w }
+
+-- room for one number more
+fields_least : (n : ℕ) (ns : List ℕ) → length (decimal n) + 1 ≤ length (fields (n ∷ ns))
+fields_least n [] = omega (arith, length_end n line_end)
+fields_least n (m ∷ ns) = omega (arith, length-append (decimal n) (space ∷ fields (m ∷ ns)))
+
+pub line_room : (before : List ℕ) (place : ℕ) (ns after : List ℕ) (last i : ℕ) → i < length ns → Line before place ns after last i
+    → last + length (decimal (get_or ns i 0)) + 1 ≤ length after
+line_room before place ns after last i h l =
+    omega (arith, l.room, ap (λ xs. length (fields_left xs)) (drop-cons ns i 0 h), fields_least (get_or ns i 0) (drop (suc i) ns))
+
+-- one number more, and the byte e behind it
+module _ (before : List ℕ) (place : ℕ) (ns after : List ℕ) (last i e : ℕ) (h : i < length ns) (f : i + 1 < length ns → e ≡ space)
+    (g : length ns ≤ i + 1 → e ≡ line_end) (l : Line before place ns after last i) where
+  abbrev field : List ℕ
+  field = decimal (get_or ns i 0) ++ e ∷ []
+
+  first : field ++ fields_left (drop (i + 1) ns) ≡ fields_left (drop i ns)
+  first =
+      fields_first (get_or ns i 0) e (drop (i + 1) ns) (λ k. f (omega (arith, length-drop (i + 1) ns))) (λ k. g (omega (arith, length-drop (i + 1) ns)))
+      ∙ sym (ap fields_left (drop-cons ns i 0 h ∙ ap (λ k. get_or ns i 0 ∷ drop k ns) (sym (add-one i))))
+
+  field_room : last + length field + length (fields_left (drop (i + 1) ns)) ≤ length after
+  field_room = omega (arith, l.room, ap length first, length-append field (fields_left (drop (i + 1) ns)))
+
+  pub line_more : (after' : List ℕ) (last' : ℕ) → Written after last field after' last' → Line before place ns after' last' (i + 1)
+  line_more after' last' w =
+      let same : length after' ≡ length after = put_room after after' field last (omega (arith, field_room)) w.1 in
+      record {
+        room = omega (arith, field_room, w.0, same);
+        same = same ∙ l.same;
+        rest = λ b j v. l.rest b j (subst (λ xs. Written after last xs b j) first (written_behind after after' b field _ last last' j (omega (arith, field_room)) w v));
+      }
+
+pub line_all : (before : List ℕ) (place : ℕ) (ns after : List ℕ) (last i : ℕ) → 1 ≤ length ns → length ns ≤ i → Line before place ns after last i
+    → Written before place (fields ns) after last
+line_all before place ns after last i h e l =
+    let none : Written after last [] after last = (omega arith, put_none after last) in
+    let left : Written after last (fields_left (drop i ns)) after last = rw (fields_none i ns e) none in
+    rw (fields_all ns h) at (l.rest after last left)

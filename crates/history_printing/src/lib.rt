@@ -15,11 +15,11 @@ fn put_decimal(out: &mut [u8], place: usize, n: u64) -> usize
     ensures digits { out.new ≡ take place out.old ++ decimal n ++ drop (place + length (decimal n)) out.old }
 {
     if n < 10 {
-        out[place] = (48 + n) as u8;
+        out[place] = b'0' + n as u8;
         return place + 1;
     }
-    let last = put_decimal(&mut *out, place, n / 10);
-    out[last] = (48 + n % 10) as u8;
+    let last = put_decimal(out, place, n / 10);
+    out[last] = b'0' + (n % 10) as u8;
     last + 1
 }
 
@@ -29,45 +29,24 @@ fn put_field(out: &mut [u8], place: usize, n: u64, end: u8) -> usize
     ensures place { result ≡ place + length (decimal n ++ end ∷ []) }
     ensures field { out.new ≡ take place out.old ++ (decimal n ++ end ∷ []) ++ drop (place + length (decimal n ++ end ∷ [])) out.old }
 {
-    let last = put_decimal(&mut *out, place, n);
+    let last = put_decimal(out, place, n);
     out[last] = end;
     last + 1
 }
 
-// Writes a line of four numbers.
-pub fn put_line(out: &mut [u8], place: usize, a: u64, b: u64, c: u64, d: u64) -> usize
-    requires { place + length (fields (a ∷ b ∷ c ∷ d ∷ [])) ≤ length out.old }
-    ensures place { result ≡ place + length (fields (a ∷ b ∷ c ∷ d ∷ [])) }
-    ensures line { out.new ≡ take place out.old ++ fields (a ∷ b ∷ c ∷ d ∷ []) ++ drop (place + length (fields (a ∷ b ∷ c ∷ d ∷ []))) out.old }
+// Writes a line of numbers, at least one.
+pub fn put_line(out: &mut [u8], place: usize, numbers: &[u64]) -> usize
+    requires some { 1 ≤ length numbers.now }
+    requires room { place + length (fields numbers.now) ≤ length out.old }
+    ensures place { result ≡ place + length (fields numbers.now) }
+    ensures line { out.new ≡ take place out.old ++ fields numbers.now ++ drop (place + length (fields numbers.now)) out.old }
 {
-    let first = put_field(&mut *out, place, a, b' ');
-    let second = put_field(&mut *out, first, b, b' ');
-    let third = put_field(&mut *out, second, c, b' ');
-    put_field(&mut *out, third, d, b'\n')
-}
-
-// Writes a line of three numbers.
-fn put_row(out: &mut [u8], place: usize, a: u64, b: u64, c: u64) -> usize
-    requires { place + length (fields (a ∷ b ∷ c ∷ [])) ≤ length out.old }
-    ensures place { result ≡ place + length (fields (a ∷ b ∷ c ∷ [])) }
-    ensures line { out.new ≡ take place out.old ++ fields (a ∷ b ∷ c ∷ []) ++ drop (place + length (fields (a ∷ b ∷ c ∷ []))) out.old }
-{
-    let first = put_field(&mut *out, place, a, b' ');
-    let second = put_field(&mut *out, first, b, b' ');
-    put_field(&mut *out, second, c, b'\n')
-}
-
-// Numbers that were read from a pool or a result.
-fn wide16(x: u16) -> u64
-    ensures { (result ≡ x) × (result < 65536) }
-{
-    x as u64
-}
-
-pub fn wide32(x: u32) -> u64
-    ensures { (result ≡ x) × (result < 4294967296) }
-{
-    x as u64
+    let mut last = place;
+    for (i, n) in numbers.iter().enumerate() {
+        let end = if i + 1 < numbers.len() { b' ' } else { b'\n' };
+        last = put_field(out, last, *n, end);
+    }
+    last
 }
 
 // Where interval i ends: at the next start, the last one at the range's end.
@@ -76,7 +55,7 @@ fn end_of(starts: &[u32; MAX_INTERVALS], i: usize, q: usize, range: u64) -> u64
     ensures { result ≡ cond (ltb (i + 1) q) (at starts.now (i + 1)) range }
 {
     if i + 1 < q {
-        return wide32(starts[i + 1]);
+        return u64::from(starts[i + 1]);
     }
     range
 }
@@ -97,12 +76,10 @@ pub fn put_rows(
         ++ drop (place + length (printed_rows (interval_rows starts.now owners.now range 0 q))) out.old }
 {
     let mut last = place;
-    let mut i = 0;
-    while i < q {
-        let start = wide32(starts[i]);
+    for i in 0..q {
+        let start = u64::from(starts[i]);
         let end = end_of(starts, i, q, range);
-        last = put_row(&mut *out, last, start, end - start, wide16(owners[i]));
-        i += 1;
+        last = put_line(out, last, &[start, end - start, u64::from(owners[i])]);
     }
     last
 }
@@ -113,10 +90,7 @@ pub fn put_text(out: &mut [u8], place: usize, text: &[u8]) -> usize
     ensures place { result ≡ place + length text.now }
     ensures text { out.new ≡ take place out.old ++ text.now ++ drop (place + length text.now) out.old }
 {
-    let mut i = 0;
-    while i < text.len() {
-        out[place + i] = text[i];
-        i += 1;
-    }
-    place + i
+    let end = place + text.len();
+    out[place..end].copy_from_slice(text);
+    end
 }

@@ -9,7 +9,7 @@ use mathlib.Core.Bool.{false}
 use mathlib.Core.List.{List}
 use Prim.Native.Nat.{ℕ}
 use native.Mathlib.Omega.{arith}
-use lib.ListN.{length, replicate, length-replicate}
+use lib.ListN.{length}
 use Rattle.slicing.specs.Changes.{State, fresh}
 use Rattle.slicing.specs.Runs.{owned, relabel}
 use Rattle.slicing.specs.Validity.{Valid}
@@ -44,16 +44,10 @@ pub record Ready (o : Opened) (table work next : List ℕ) : Type 0 where
   pub work_size : length work ≡ room
   pub next_size : length next ≡ room
 
--- a pool without devices, with arrays of zeros
-module _ (o : Opened) (f : (table : List ℕ) → length table ≡ room → Open o table × (state_in o table ≡ fresh 1 1)) where
-  abbrev zeros : List ℕ
-  zeros = replicate 8448 0
+-- a pool without devices, with its table in an array
+module _ (o : Opened) (f : (table : List ℕ) → length table ≡ room → Open o table × (state_in o table ≡ fresh 1 1)) (table : List ℕ) (t : length table ≡ room) where
+  pub start_ready : {work next : List ℕ} → length work ≡ room → length next ≡ room → Ready o table work next
+  start_ready w n = record { opened = (f table t).0; work_size = w; next_size = n }
 
-  zeros_size : length zeros ≡ room
-  zeros_size = length-replicate {A = ℕ} 8448 0
-
-  pub start_ready : Ready o zeros zeros zeros
-  start_ready = record { opened = (f zeros zeros_size).0; work_size = zeros_size; next_size = zeros_size }
-
-  pub start_reading : reading_in false o zeros ≡ start
-  start_reading = ap (λ (s : State). record { begun = false; pool = s }) (f zeros zeros_size).1
+  pub start_reading : reading_in false o table ≡ start
+  start_reading = ap (λ (s : State). record { begun = false; pool = s }) (f table t).1

@@ -34,11 +34,11 @@ fn refused(begun: bool, pool: Opened, refusal: u32) -> Step
     ensures { result ≡ refusedStep begun pool refusal }
 {
     Step {
-        refusal: refusal,
+        refusal,
         moved: 0,
         count: 0,
-        begun: begun,
-        pool: pool,
+        begun,
+        pool,
     }
 }
 
@@ -50,13 +50,12 @@ fn range_line(begun: bool, pool: Opened, range: u64, limit: u64) -> Step
     if begun {
         return refused(begun, pool, MISPLACED);
     }
-    let after = without_devices(range, limit);
     Step {
         refusal: 0,
         moved: 0,
         count: 0,
         begun: true,
-        pool: after,
+        pool: without_devices(range, limit),
     }
 }
 
@@ -76,17 +75,16 @@ fn change(
     if !begun {
         return refused(begun, pool, MISPLACED);
     }
-    let made = plan(pool, call, PLACES, &*table, &mut *work, &mut *next);
-    let after = made.after;
+    let made = plan(pool, call, PLACES, table, work, next);
     if made.refusal == 0 {
-        renew(&mut *table, &*next, after.intervals);
+        renew(table, next, made.after.intervals);
     }
     Step {
         refusal: made.refusal,
         moved: made.moved,
         count: made.count,
         begun: true,
-        pool: after,
+        pool: made.after,
     }
 }
 

@@ -27,11 +27,9 @@ impl History {
     pub fn new() -> Self
         ensures { result ≡ record { begun = false; pool = pool_of (Changes.fresh 1 1) } }
     {
-        let answer = fresh(1, 1);
-        let pool = answer.pool;
         Self {
             begun: false,
-            pool: pool,
+            pool: fresh(1, 1).pool,
         }
     }
 }
@@ -50,10 +48,10 @@ fn refused(history: History, refusal: u32) -> LineResult
     ensures { result ≡ refusedLine history refusal }
 {
     LineResult {
-        refusal: refusal,
+        refusal,
         moved: 0,
         count: 0,
-        history: history,
+        history,
     }
 }
 
@@ -64,17 +62,14 @@ fn ranged(history: History, range: u64, limit: u64) -> LineResult
     if history.begun {
         return refused(history, MISPLACED);
     }
-    let answer = fresh(range, limit);
-    let pool = answer.pool;
-    let next = History {
-        begun: true,
-        pool: pool,
-    };
     LineResult {
         refusal: 0,
         moved: 0,
         count: 0,
-        history: next,
+        history: History {
+            begun: true,
+            pool: fresh(range, limit).pool,
+        },
     }
 }
 
@@ -85,29 +80,25 @@ fn changed(history: History, call: Call) -> LineResult
     if !history.begun {
         return refused(history, MISPLACED);
     }
-    let pool = history.pool;
     let mut table = blank();
-    let checked = open(pool, &mut table);
+    let checked = open(history.pool, &mut table);
     if !checked.valid {
         return refused(history, OUTSIDE);
     }
-    let before = checked.opened;
     let mut work = blank();
     let mut next = blank();
-    let made = plan(before, call, PLACES, &table, &mut work, &mut next);
+    let made = plan(checked.opened, call, PLACES, &table, &mut work, &mut next);
     if made.refusal > 0 {
         return refused(history, made.refusal);
     }
-    let after = made.after;
-    let left = History {
-        begun: true,
-        pool: close(after, &next),
-    };
     LineResult {
         refusal: 0,
         moved: made.moved,
         count: made.count,
-        history: left,
+        history: History {
+            begun: true,
+            pool: close(made.after, &next),
+        },
     }
 }
 

@@ -10,7 +10,7 @@ pub returns-then-i-q : goal.returns-then-i-q
 returns-then-i-q c =
     let a = c.args in
     let e = lt-ltb (a.i + 1) a.q c.if-i-q.true in
-    c.wide32.ensures.0 ∙ sym (ap (λ t. cond t (at a.starts.now (a.i + 1)) a.range) e)
+    c.from.ensures ∙ sym (ap (λ t. cond t (at a.starts.now (a.i + 1)) a.range) e)
 
 pub returns : goal.returns
 returns c =

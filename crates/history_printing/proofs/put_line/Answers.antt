@@ -1,32 +1,33 @@
 -- `history_printing::put_line` meets its contract: each field stands behind the one before it.
-use mathlib.Core.List.{[], ◌∷◌}
+use mathlib.Core.Path.{◌≡◌}
+use Prim.Native.Nat.{◌+◌, ◌≤◌, ◌<◌}
 use native.Mathlib.Omega.{arith}
-use Rattle.history_numbers.specs.Text.{space}
-use Rattle.history_printing.proofs.PutBehind.{fields_behind, length_end, length_four}
+use lib.ListN.{length}
+use Rattle.history_numbers.specs.Text.{line_end, space}
+use Rattle.history_printing.proofs.PutBehind.{line_none, line_room, line_more, line_all}
 use Rattle.history_printing.proofs.put_line.Goals as goal
+use Rattle.history_printing.proofs.put_line.Goals.{then-i-numbers, else-i-numbers}
 
-pub put_field-first-requires : goal.put_field-first-requires
-put_field-first-requires c =
-    let a = c.args in
-    omega (arith, length_four a.a a.b a.c a.d)
+pub loop-i-init : goal.loop-i-init
+loop-i-init c = line_none c.args.out.now c.args.place c.args.numbers.now c.requires.some c.requires.room
 
-pub put_field-second-requires : goal.put_field-second-requires
-put_field-second-requires c =
-    let a = c.args in
-    omega (arith, length_four a.a a.b a.c a.d, c.put_field-first.ensures.place, length_end a.a space)
+pub put_field-last-requires : goal.put_field-last-requires
+put_field-last-requires c =
+    line_room c.args.out.now c.args.place c.args.numbers.now c.loop-i.out c.loop-i.last c.loop-i.i c.loop-i-test.true c.loop-i.invariant
 
-pub put_field-third-requires : goal.put_field-third-requires
-put_field-third-requires c =
-    let a = c.args in
-    omega (arith, length_four a.a a.b a.c a.d, c.put_field-first.ensures.place, length_end a.a space, c.put_field-second.ensures.place, length_end a.b space)
-
-pub put_field-requires : goal.put_field-requires
-put_field-requires c =
-    let a = c.args in
-    omega (arith, length_four a.a a.b a.c a.d, c.put_field-first.ensures.place, length_end a.a space, c.put_field-second.ensures.place, length_end a.b space, c.put_field-third.ensures.place, length_end a.c space)
+pub loop-i-preserved : goal.loop-i-preserved
+loop-i-preserved c =
+    let l = c.loop-i in
+    let ns = c.args.numbers.now in
+    let e : (l.i + 1 < length ns → c.if-i-numbers.end ≡ space) × (length ns ≤ l.i + 1 → c.if-i-numbers.end ≡ line_end) = elim c.if-i-numbers.branch [
+      | then-i-numbers w ↦ (λ k. w.end-is, λ k. absurd (omega arith))
+      | else-i-numbers w ↦ (λ k. absurd (omega arith), λ k. w.end-is)
+    ] in
+    line_more c.args.out.now c.args.place ns l.out l.last l.i c.if-i-numbers.end c.loop-i-test.true e.0 e.1 l.invariant
+    c.put_field-last.new.out c.put_field-last.result (c.put_field-last.ensures.place, c.put_field-last.ensures.field)
 
 pub returns : goal.returns
 returns c =
-    let a = c.args in let l = length_four a.a a.b a.c a.d in let e1 = length_end a.a space in let e2 = length_end a.b space in let b0 = a.out.now in let b1 = c.put_field-first.new.out in let b2 = c.put_field-second.new.out in let b3 = c.put_field-third.new.out in let b4 = c.put_field.new.out in let i1 = c.put_field-first.result in let i2 = c.put_field-second.result in let i3 = c.put_field-third.result in let i4 = c.put_field.result in let all = fields_behind b0 b1 b4 a.a a.b (a.c ∷ a.d ∷ []) a.place i1 i4 (omega arith) (c.put_field-first.ensures.place, c.put_field-first.ensures.field)
-    (fields_behind b1 b2 b4 a.b a.c (a.d ∷ []) i1 i2 i4 (omega (arith, c.put_field-first.ensures.place)) (c.put_field-second.ensures.place, c.put_field-second.ensures.field)
-    (fields_behind b2 b3 b4 a.c a.d [] i2 i3 i4 (omega (arith, c.put_field-first.ensures.place, c.put_field-second.ensures.place)) (c.put_field-third.ensures.place, c.put_field-third.ensures.field) (c.put_field.ensures.place, c.put_field.ensures.field))) in record { place = all.0; line = all.1 }
+    let l = c.loop-i in
+    let all = line_all c.args.out.now c.args.place c.args.numbers.now l.out l.last l.i c.requires.some c.loop-i-test.false l.invariant in
+    record { place = all.0; line = all.1 }

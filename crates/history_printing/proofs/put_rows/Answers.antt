@@ -14,24 +14,24 @@ overflow_sub-end c =
     omega (
       arith,
       row_fits a.starts.now a.owners.now a.range a.q c.loop-i.i c.loop-i-test.true c.requires.q_bound.2,
-      c.wide32-start.ensures.0,
+      c.from-start.ensures,
       c.end_of-end.ensures,
     )
 
-pub put_row-last-requires : goal.put_row-last-requires
-put_row-last-requires c =
+pub put_line-last-requires-clause-room : goal.put_line-last-requires-clause-room
+put_line-last-requires-clause-room c =
     let a = c.args in
     printed_room a.starts.now a.owners.now a.range a.q a.place a.out.now c.loop-i.out c.loop-i.last c.loop-i.i
-    c.wide32-start.result c.end_of-end.result c.wide16.result c.requires.q_bound.2 c.requires.q_bound.1 c.loop-i-test.true c.requires.q_in_bounds
-    c.wide32-start.ensures.0 c.end_of-end.ensures c.wide16.ensures.0 c.wide16.ensures.1 c.loop-i.invariant
+    c.from-start.result c.end_of-end.result c.from.result c.requires.q_bound.2 c.requires.q_bound.1 c.loop-i-test.true c.requires.q_in_bounds
+    c.from-start.ensures c.end_of-end.ensures c.from.ensures (omega arith) c.loop-i.invariant
 
 pub loop-i-preserved : goal.loop-i-preserved
 loop-i-preserved c =
     let a = c.args in
     printed_more a.starts.now a.owners.now a.range a.q a.place a.out.now c.loop-i.out c.loop-i.last c.loop-i.i
-    c.wide32-start.result c.end_of-end.result c.wide16.result c.requires.q_bound.2 c.requires.q_bound.1 c.loop-i-test.true c.requires.q_in_bounds
-    c.wide32-start.ensures.0 c.end_of-end.ensures c.wide16.ensures.0 c.wide16.ensures.1 c.loop-i.invariant
-    c.put_row-last.new.out c.put_row-last.result (c.put_row-last.ensures.place, c.put_row-last.ensures.line)
+    c.from-start.result c.end_of-end.result c.from.result c.requires.q_bound.2 c.requires.q_bound.1 c.loop-i-test.true c.requires.q_in_bounds
+    c.from-start.ensures c.end_of-end.ensures c.from.ensures (omega arith) c.loop-i.invariant
+    c.put_line-last.new.out c.put_line-last.result (c.put_line-last.ensures.place, c.put_line-last.ensures.line)
 
 pub shape_of-out : goal.shape_of-out
 shape_of-out c =

@@ -8,12 +8,12 @@ use Rattle.history.proofs.PoolsLeft.{leaving_none, leaving_step}
 use Rattle.history.proofs.last_pool.pool_after.Goals as goal
 
 pub close-requires : goal.close-requires
-close-requires c = (start_ready c.without_devices-pool.result c.without_devices-pool.ensures).opened
+close-requires c = (start_ready c.without_devices-pool.result c.without_devices-pool.ensures _ c.blank-table.ensures c.blank-work.ensures c.blank-next.ensures).opened
 
 pub loop-from-init : goal.loop-from-init
 loop-from-init c =
     let o = c.without_devices-pool in
-    (leaving_none c.args.text.now _ (start_reading o.result o.ensures), start_ready o.result o.ensures)
+    (leaving_none c.args.text.now _ (start_reading o.result o.ensures _ c.blank-table.ensures), start_ready o.result o.ensures _ c.blank-table.ensures c.blank-work.ensures c.blank-next.ensures)
 
 pub loop-from-preserved-in-Refused : goal.loop-from-preserved-in-Refused
 loop-from-preserved-in-Refused c =

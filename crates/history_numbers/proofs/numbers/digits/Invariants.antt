@@ -1,13 +1,7 @@
--- `history_numbers::numbers::digits` meets its contract. The loop's invariant: the bytes before `i` are digits and spell `value`.
-use Prim.Native.Nat.{◌-◌}
-use lib.ListN.{length}
+-- `history_numbers::numbers::digits` meets its contract. The loop's invariant: the bytes before the index are digits and spell `value`.
 use Rattle.history_numbers.proofs.DigitWords.{Spelling}
 use Rattle.history_numbers.proofs.numbers.digits.Given as goal
 
-abbrev pub invariant-loop-i : goal.invariant-loop-i
-invariant-loop-i l =
-    Spelling l.word l.value l.i
-
-abbrev pub decreases-loop-i : goal.decreases-loop-i
-decreases-loop-i l =
-    length l.word - l.i
+abbrev pub invariant-loop-byte : goal.invariant-loop-byte
+invariant-loop-byte l =
+    Spelling l.word l.value l.byte-index
