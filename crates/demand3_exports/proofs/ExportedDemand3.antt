@@ -41,7 +41,7 @@ use Rattle.demand3.specs.Openings as Calls
 use Rattle.demand3.proofs.Demand3.{Ready, ready, ready_step, claim_step}
 use Rattle.demand3.proofs.Inhabited as Starts
 use Rattle.demand3.proofs.Tables.{agreement_pool}
-use Rattle.placement.proofs.Drafts.{length_written}
+use Rattle.placement.proofs.Changes.{length_written}
 use Rattle.demand3_exports.specs.Exports.{Exported, image_after, Kept, step_of}
 use Rattle.demand3_exports.specs.ExportedDemand3.{Opening, fresh_image, checked_image, Claim, ExportedDemand3}
 use Rattle.demand3_exports.proofs.Steps.{number_change, pool_in_image_of, changed_step, refused_answer, outcome_valid, accepted_answer}

@@ -3,17 +3,13 @@
 --   move_of m, row_of m       a move of the list as the rules' move, and back
 --   Answered ..             the values of an answer, from an outcome of the rules
 --   Changed p lent k r l    r answers the change k on the pool p, and l is the lent list afterwards
---   Holds o p d             d holds the outcome o of the rules, with the pool p afterwards
---   Drawn p k n d           d is the change k on the pool p, worked out for a list of n places
-use Rattle.std.specs.Prelude.{◌≡◌, List, ◌++◌, map, ℕ, ◌≤◌, length, take, drop}
+use Rattle.std.specs.Prelude.{◌≡◌, List, ◌++◌, map, drop}
 use Rattle.pools.specs.Pools.{state_of, pool_of, ValidPool}
 use Rattle.pools.specs.declared.Pool.{Pool}
 use Rattle.slicing.specs.Changes.{Change, Outcome, refused, change}
 use Rattle.slicing.specs.Claims.{written}
 use Rattle.slicing.specs.SixSteps as Rules
-use Rattle.packed_runs.specs.Words.{room}
 use Rattle.placement.specs.declared.ChangeAnswer.{ChangeAnswer}
-use Rattle.placement.specs.declared.Draft.{Draft}
 use Rattle.placement.specs.declared.Move.{Move}
 
 abbrev pub move_of : Move → Rules.Move
@@ -35,18 +31,3 @@ pub record Answered (lent : List Move) (o : Outcome) (p : Pool) (r : ChangeAnswe
 pub record Changed (p : Pool) (lent : List Move) (k : Change) (r : ChangeAnswer) (after : List Move) : Type 0 where
   pub valid : ValidPool p → Answered lent (change (state_of p) (map move_of lent) k) (pool_of (change (state_of p) (map move_of lent) k).state) r after
   pub invalid : (ValidPool p → ⊥) → Answered lent (refused (state_of p) (map move_of lent) 2) p r after
-
--- the values of a draft, from an outcome of the rules
-pub record Holds (o : Outcome) (p : Pool) (d : Draft) : Type 0 where
-  pub number : d.answer.refusal ≡ o.number
-  pub moved : d.answer.moved ≡ o.moved
-  pub count : d.answer.count ≡ o.count
-  pub pool : d.answer.pool ≡ p
-  pub rows : take o.count d.rows ≡ map row_of (written o)
-
--- the same outcome for every lent list of n places
-pub record Drawn (p : Pool) (k : Change) (n : ℕ) (d : Draft) : Type 0 where
-  pub fits : d.answer.count ≤ n
-  pub most : d.answer.count ≤ room
-  pub valid : ValidPool p → (lent : List Rules.Move) → length lent ≡ n → Holds (change (state_of p) lent k) (pool_of (change (state_of p) lent k).state) d
-  pub invalid : (ValidPool p → ⊥) → (lent : List Rules.Move) → length lent ≡ n → Holds (refused (state_of p) lent 2) p d

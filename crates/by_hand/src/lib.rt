@@ -1,2 +1,0 @@
-// Laws for proofs by hand over slices of structs, and no code: see proofs/.
-#![tactic(auto)]

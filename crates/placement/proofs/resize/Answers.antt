@@ -1,6 +1,0 @@
--- `placement::resize` meets its contract: the answer and the list are those of the draft.
-use Rattle.placement.proofs.Drafts.{changed_written}
-use Rattle.placement.proofs.resize.Goals as goal
-
-pub returns : goal.returns
-returns c = changed_written _ _ _ _ c.draw_resize-draft.ensures _ _ c.write.ensures.0 c.write.ensures.1

@@ -1,7 +1,0 @@
--- `test_lent_lists::remove` meets its contract: what came back of the part that was lent, and the rest as it was.
-use Rattle.test_lent_lists.proofs.Afterwards.{blanks_size, lends_front_of}
-use Rattle.test_lent_lists.proofs.remove.Goals as goal
-
-pub returns : goal.returns
-returns c =
-    lends_front_of _ _ _ _ _ c.blank-list.result c.remove-answer.new.list _ c.blank-list.ensures c.places_lent-n.ensures (blanks_size _ c.blank-list.ensures) c.both.ensures c.remove-answer.auto.list c.remove-answer.ensures
