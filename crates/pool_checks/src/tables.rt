@@ -1,6 +1,6 @@
 // A pool's intervals as runs of the rows of their owners, what each row has of them, and whether that is its
 // due.
-ghost use Rattle.std.specs.Prelude.{◌≡◌, true, ℕ, ◌≤◌, ◌<◌, ◌^◌, length};
+ghost use Rattle.std.specs.Prelude.{◌≡◌, ℕ, IfSome, is_some, ◌≤◌, ◌<◌, ◌^◌, length};
 ghost use Rattle.slicing.specs.Runs.{total, owned};
 ghost use Rattle.slicing_core.specs.Rows.{at};
 ghost use Rattle.slicing_core.specs.Stages.{Below, Ascending, Decides};
@@ -50,11 +50,13 @@ fn rows_of(
 {
     for i in 0..q {
         let size = length_at(starts, owners, q, range, i);
-        let place = find(ids, n, u64::from(owners[i]));
-        if size == 0 || !place.present {
+        if size == 0 {
             return false;
         }
-        table[i] = size * LABELS + place.row as u64;
+        let Ok(row) = find(ids, n, u64::from(owners[i])) else {
+            return false;
+        };
+        table[i] = size * LABELS + row as u64;
     }
     q > 0 && starts[0] == 0
 }
@@ -81,15 +83,8 @@ fn same(has: &[u64; MAX_DEVICES], due: &[u64; MAX_DEVICES], n: usize) -> bool
     has[..n] == due[..n]
 }
 
-// What each row has of a pool's intervals, and whether each has its due.
-#[derive(Clone, Copy)]
-pub struct Holdings {
-    pub fair: bool,
-    pub has: [u64; MAX_DEVICES],
-}
-
-// Decides whether q intervals give each of the n devices its due, and the range to them alone, and puts them into
-// the array as runs of rows.
+// What each row has of q intervals that give each of the n devices its due, and the range to them alone; none of
+// others. Puts them into the array as runs of rows.
 pub fn dealt(
     starts: &[u32; MAX_INTERVALS],
     owners: &[u16; MAX_INTERVALS],
@@ -99,22 +94,19 @@ pub fn dealt(
     n: usize,
     due: &[u64; MAX_DEVICES],
     table: &mut [u64; ROOM],
-) -> Holdings
+) -> Option<[u64; MAX_DEVICES]>
     requires { (q ≤ 4096) × (1 ≤ range) × (range ≤ 2 ^ 32) × (n ≤ 256) × Ascending ids.now n × Below 65536 ids.now n × (length table.old ≡ room) }
-    ensures fair { Decides result.fair (Dealt starts.now owners.now q range ids.now n due.now) }
-    ensures rows { result.fair ≡ true → Rowed starts.now owners.now q range ids.now n table.new
-        × ((i : ℕ) → i < n → at result.has i ≡ owned i (runs table.new 0 q)) }
-    ensures has_len { (length result.has ≡ 256) × (length table.new ≡ room) }
+    ensures fair { Decides (is_some result) (Dealt starts.now owners.now q range ids.now n due.now) }
+    ensures rows { IfSome result (λ has. Rowed starts.now owners.now q range ids.now n table.new
+        × ((i : ℕ) → i < n → at has i ≡ owned i (runs table.new 0 q)) × (length has ≡ 256)) }
+    ensures table_len { length table.new ≡ room }
 {
     if !rows_of(starts, owners, q, range, ids, n, table) {
-        return Holdings {
-            fair: false,
-            has: [0; MAX_DEVICES],
-        };
+        return None;
     }
     let has = held(table, q);
-    Holdings {
-        fair: same(&has, due, n),
-        has,
+    if !same(&has, due, n) {
+        return None;
     }
+    Some(has)
 }

@@ -22,7 +22,8 @@ pub struct Pool {
     pub owners: [u16; MAX_INTERVALS],
 }
 
-// The answer of a call that makes a pool.
+// The answer of a call that makes a pool: the refusal number or 0, and a pool in either case. Document 01: 'a refused call
+// that makes a pool gives a fresh one with R = 1 and M = 1', so a Result would lose a value.
 #[derive(Clone, Copy)]
 pub struct PoolAnswer {
     pub refusal: u32,

@@ -5,7 +5,8 @@ ghost use Rattle.pools.specs.Pools.{pool_of};
 ghost use Rattle.pools.specs.Promises.{Fresh};
 
 use crate::{Pool, PoolAnswer};
-use slicing::{MAX_DEVICES, MAX_INTERVALS, MAX_LIMIT, MAX_RANGE, OUTSIDE, outside};
+use refusals::Refusal;
+use slicing::{MAX_DEVICES, MAX_INTERVALS, MAX_LIMIT, MAX_RANGE, outside};
 
 // A pool without devices.
 fn without_devices(range: u64, limit: u32) -> Pool
@@ -30,7 +31,7 @@ pub fn fresh(range: u64, limit: u64) -> PoolAnswer
 {
     if outside(MAX_RANGE, range) || outside(MAX_LIMIT, limit) {
         return PoolAnswer {
-            refusal: OUTSIDE,
+            refusal: u32::from(Refusal::Outside),
             pool: without_devices(1, 1),
         };
     }

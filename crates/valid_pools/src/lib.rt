@@ -7,23 +7,14 @@ mod opening;
 mod reporting;
 mod sharing;
 
-pub use finding::{Found, find_device, not_found};
-pub use opening::{Checked, open, open_cleared, valid};
+pub use finding::{Found, find_device};
+pub use opening::{open, open_cleared, valid};
 pub use reporting::{report, report_of};
 pub use sharing::share;
 
-// The answer of a call for a share.
+// A report: R × c divided by C as a whole number; the remainder; share × C − R × c.
 #[derive(Clone, Copy)]
-pub enum ShareAnswer {
-    Share(u64),
-    Refused(u32),
-}
-
-// The answer of a call for a report: the refusal number or 0; R × c divided by C as a whole number; the
-// remainder; share × C − R × c. Refused, it has zeros beside the number.
-#[derive(Clone, Copy)]
-pub struct ReportAnswer {
-    pub refusal: u32,
+pub struct Report {
     pub whole: u64,
     pub remainder: u64,
     pub difference: i64,

@@ -1,5 +1,5 @@
-// A pool opened: whether it is valid, its devices by row, and its table as runs of rows.
-ghost use Rattle.std.specs.Prelude.{◌≡◌, true, length};
+// A valid pool opened: its devices by row, and its table as runs of rows.
+ghost use Rattle.std.specs.Prelude.{◌≡◌, IfSome, is_some, length};
 ghost use Rattle.slicing_core.specs.Stages.{Decides};
 ghost use Rattle.packed_runs.specs.Words.{room};
 ghost use Rattle.opened.specs.OpenPools.{state_in, Open};
@@ -9,17 +9,10 @@ ghost use Rattle.valid_pools.specs.Opening.{Entered};
 use opened::Opened;
 use packed_runs::{ROOM, blank};
 use pool_checks::checking::{cleared, formed};
-use pool_checks::tables::{Holdings, dealt};
+use pool_checks::tables::dealt;
 use pools::Pool;
 use shares::shares;
 use slicing::MAX_DEVICES;
-
-// Whether a pool is valid, and the pool opened where it is.
-#[derive(Clone, Copy)]
-pub struct Checked {
-    pub valid: bool,
-    pub opened: Opened,
-}
 
 // A pool's numbers as those of an opened one, which has nothing yet.
 fn entered(pool: Pool) -> Opened
@@ -38,30 +31,24 @@ fn entered(pool: Pool) -> Opened
     }
 }
 
-// Decides whether a pool whose unused places are 0 is valid, and opens it: each of its devices has what its
-// table gives, and that is its share.
-pub fn open_cleared(pool: Pool, table: &mut [u64; ROOM]) -> Checked
+// A pool whose unused places are 0, opened, if it is valid: each of its devices has what its table gives, and that is
+// its share.
+pub fn open_cleared(pool: Pool, table: &mut [u64; ROOM]) -> Option<Opened>
     requires { Cleared pool × (length table.old ≡ room) }
-    ensures valid { Decides result.valid (ValidPool pool) }
-    ensures opened { result.valid ≡ true → Open result.opened table.new × (state_in result.opened table.new ≡ state_of pool) }
+    ensures valid { Decides (is_some result) (ValidPool pool) }
+    ensures opened { IfSome result (λ o. Open o table.new × (state_in o table.new ≡ state_of pool)) }
     ensures table_len { length table.new ≡ room }
 {
     let n = pool.devices;
     let mut opened = entered(pool);
     if !formed(pool, &opened.ids, &opened.capacities) {
-        return Checked {
-            valid: false,
-            opened,
-        };
+        return None;
     }
     if n == 0 {
-        return Checked {
-            valid: true,
-            opened,
-        };
+        return Some(opened);
     }
     let due = shares(pool.range, &opened.ids, &opened.capacities, n);
-    let Holdings { fair, has } = dealt(
+    let Some(has) = dealt(
         &pool.starts,
         &pool.owners,
         pool.intervals,
@@ -70,26 +57,22 @@ pub fn open_cleared(pool: Pool, table: &mut [u64; ROOM]) -> Checked
         n,
         &due,
         table,
-    );
+    ) else {
+        return None;
+    };
     opened.has = has;
-    Checked {
-        valid: fair,
-        opened,
-    }
+    Some(opened)
 }
 
-// Decides whether a pool is valid, and opens it.
-pub fn open(pool: Pool, table: &mut [u64; ROOM]) -> Checked
+// A pool opened, if it is valid.
+pub fn open(pool: Pool, table: &mut [u64; ROOM]) -> Option<Opened>
     requires { length table.old ≡ room }
-    ensures valid { Decides result.valid (ValidPool pool) }
-    ensures opened { result.valid ≡ true → Open result.opened table.new × (state_in result.opened table.new ≡ state_of pool) }
+    ensures valid { Decides (is_some result) (ValidPool pool) }
+    ensures opened { IfSome result (λ o. Open o table.new × (state_in o table.new ≡ state_of pool)) }
     ensures table_len { length table.new ≡ room }
 {
     if !cleared(pool) {
-        return Checked {
-            valid: false,
-            opened: entered(pool),
-        };
+        return None;
     }
     open_cleared(pool, table)
 }
@@ -99,5 +82,5 @@ pub fn valid(pool: Pool) -> bool
     ensures { Decides result (ValidPool pool) }
 {
     let mut table = blank();
-    open(pool, &mut table).valid
+    open(pool, &mut table).is_some()
 }

@@ -1,23 +1,12 @@
 // The call for a report: what a device is exactly due, and how far its share lies from that.
 ghost use Rattle.std.specs.Prelude.{◌≡◌, ◌<◌, pos, ◌-ℤ◌};
-ghost use Rattle.slicing.specs.Reports.{no_report};
 ghost use Rattle.valid_pools.specs.Finding.{Measured, report_from};
-ghost use Rattle.valid_pools.specs.Promises.{report_as, Reported};
+ghost use Rattle.valid_pools.specs.Promises.{Reported};
 
-use crate::ReportAnswer;
+use crate::Report;
 use crate::finding::{Found, find_in};
 use pools::Pool;
-
-fn no_report(refusal: u32) -> ReportAnswer
-    ensures { result ≡ report_as (no_report refusal) }
-{
-    ReportAnswer {
-        refusal,
-        whole: 0,
-        remainder: 0,
-        difference: 0,
-    }
-}
+use refusals::Refusal;
 
 // The first number less the second, with its sign. Both fit 64 bits with a sign.
 fn minus(x: u64, y: u64) -> i64
@@ -27,20 +16,16 @@ fn minus(x: u64, y: u64) -> i64
     x as i64 - y as i64
 }
 
-// The report on a device that was found, or its refusal.
-pub fn report_of(device: Found) -> ReportAnswer
+// The report on a device that was found.
+pub fn report_of(device: Found) -> Report
     requires { Measured device }
     ensures { result ≡ report_from device }
 {
-    if device.refusal > 0 {
-        return no_report(device.refusal);
-    }
     let due = device.range * device.capacity;
     let whole = due / device.sum;
     let remainder = due % device.sum;
     let held = device.points * device.sum;
-    ReportAnswer {
-        refusal: 0,
+    Report {
         whole,
         remainder,
         difference: minus(held, due),
@@ -48,8 +33,9 @@ pub fn report_of(device: Found) -> ReportAnswer
 }
 
 // The report on a device. 2 for a pool that is not valid or an id outside 1 to 65,535; 5 where it is absent.
-pub fn report(pool: Pool, id: u64) -> ReportAnswer
+pub fn report(pool: Pool, id: u64) -> Result<Report, Refusal>
     ensures { Reported pool id result }
 {
-    report_of(find_in(pool, id))
+    let device = find_in(pool, id)?;
+    Ok(report_of(device))
 }
