@@ -1,5 +1,5 @@
 // The call for a report: what a device is exactly due, and how far its share lies from that.
-ghost use Rattle.std.specs.Prelude.{◌≡◌, ◌<◌, pos, ◌-ℤ◌};
+ghost use Rattle.std.specs.Prelude.{◌≡◌};
 ghost use Rattle.slicing.specs.Reports.{no_report};
 ghost use Rattle.valid_pools.specs.Finding.{Measured, report_from};
 ghost use Rattle.valid_pools.specs.Promises.{report_as, Reported};
@@ -19,14 +19,6 @@ fn no_report(refusal: u32) -> ReportAnswer
     }
 }
 
-// The first number less the second, with its sign. Both fit 64 bits with a sign.
-fn minus(x: u64, y: u64) -> i64
-    requires { (x < 9223372036854775808) × (y < 9223372036854775808) }
-    ensures { result ≡ pos x -ℤ pos y }
-{
-    x as i64 - y as i64
-}
-
 // The report on a device that was found, or its refusal.
 pub fn report_of(device: Found) -> ReportAnswer
     requires { Measured device }
@@ -43,7 +35,7 @@ pub fn report_of(device: Found) -> ReportAnswer
         refusal: 0,
         whole,
         remainder,
-        difference: minus(held, due),
+        difference: held as i64 - due as i64,
     }
 }
 

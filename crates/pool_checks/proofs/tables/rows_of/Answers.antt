@@ -14,7 +14,7 @@ returns-then-size-eq0-clause-rows_of c =
     let args = c.args in
     let here = c.loop-i-test.true in
     elim c.then-size-eq0.branch [
-      then-size-eq0-via-then-size-eq0 w ↦ rowing_short c.loop-i.invariant here c.length_at-size.ensures w.if-size-eq0.true
+      | then-size-eq0-via-then-size-eq0 w ↦ rowing_short c.loop-i.invariant here c.length_at-size.ensures w.if-size-eq0.true
       | then-size-eq0-via-else-size-eq0+then-not-place w ↦
           rowing_unknown c.loop-i.invariant here c.length_at-size.ensures w.if-size-eq0.false
           (λ cs. sym (not-true c.find-place.result.present w.if-not-place.true) ∙ c.find-place.ensures.present cs
