@@ -6,20 +6,17 @@
 -- left: left_end
 -- Rowing: rowing_step; at an interval that cannot stand there: rowing_short (it has no length), rowing_unknown (no owner)
 -- RowsOf: rows_first (all stand there; the first begins at 0 or not)
-use mathlib.Core.Path.{◌≡◌, refl, sym, ap, ◌∙◌}
+use mathlib.Core.Path.{◌≡◌, refl, sym, ◌∙◌}
 use mathlib.Core.Bool.{Bool, true, false, true≢false}
-use mathlib.Core.List.{List, [], ◌∷◌, ◌++◌, append-nil}
-use Prim.Native.Nat.{ℕ, zero, suc, ◌+◌, ◌-◌, ◌*◌, ◌%◌, ◌≤◌, ◌<◌, ◌^◌}
-use native.Mathlib.Nat.{sub-zero}
-use native.Mathlib.Numerals.{add-one}
+use mathlib.Core.List.{List, [], ◌++◌, append-nil}
+use Prim.Native.Nat.{ℕ, zero, suc, ◌+◌, ◌-◌, ◌*◌, ◌%◌, ◌≤◌, ◌<◌}
 use native.Mathlib.Omega.{arith}
 use lib.Dec.{eqb}
 use lib.ListN.{length, set, length-set}
 use lib.Seq.{append_snoc}
-use borrow.Author.Count.{below_none}
-use borrow.Author.Tests.{eqb-true, eqb-false, eq-eqb, ne_eqb}
+use borrow.Author.Tests.{eqb-true, eqb-false, eq-eqb}
 use Rattle.slicing.specs.Devices.{present}
-use Rattle.slicing.specs.Runs.{Run, ◌of◌, total, owned, relabel, Differs, Coalesced}
+use Rattle.slicing.specs.Runs.{Run, total, owned, relabel, Coalesced}
 use Rattle.slicing.proofs.Runs.{owned_append, relabel_append}
 use Rattle.slicing_core.specs.Rows.{at, device_rows, table_rows}
 use Rattle.packed_runs.specs.Words.{runs, room, Labelled}

@@ -1,7 +1,7 @@
 -- Laws of a device found by its id.
 --
--- made: found_two (an id outside its limits), found_five, found_present (its row)
--- used: found_refused (a call that refuses with the same numbers), found_here (a device is found: it is present, and its numbers are these)
+-- made: found_present (its row)
+-- used: found_refused (a call that refuses with the same numbers)
 -- Measured: measured_refused (a refusal), measured_in (of a valid state), measured_of (of any pool)
 use mathlib.Core.Path.{◌≡◌, refl, sym, ap, ◌∙◌}
 use mathlib.Core.Bool.{Bool, true, false, cond}
@@ -23,12 +23,6 @@ use Rattle.opened.proofs.OpenPools.{open_ascending, open_share}
 use Rattle.pools.specs.declared.Pool.{Pool}
 use Rattle.valid_pools.specs.Finding.{not_found, numbers_of, FoundIn, FoundOf, found, invalid, Measured}
 use Rattle.valid_pools.specs.declared.finding.Found.{Found}
-
-pub found_two : (s : State) (id : ℕ) → outside max_id id ≡ true → FoundIn s id (not_found 2)
-found_two s id o = record { same = rw o }
-
-pub found_five : (s : State) (id : ℕ) → outside max_id id ≡ false → present id s.devices ≡ false → FoundIn s id (not_found 5)
-found_five s id o a = record { same = rw (o, a) }
 
 module _ {o : Opened} {table : List ℕ} (h : Open o table) (id row : ℕ) (l : row < o.devices) (i : at o.ids row ≡ id) where
   capacity_at : at o.capacities row ≡ capacity_of (devices_in o) id
@@ -55,14 +49,6 @@ module _ {s : State} {id : ℕ} {f : Found} (h : FoundIn s id f) where
       go true b e = ap (λ (y : Found). g y.refusal) e
       go false true e = absurd (omega (arith, z, ap (λ (y : Found). y.refusal) e))
       go false false e = ap (λ (y : Found). g y.refusal) e
-
-  pub found_here : f.refusal ≤ 0 → (outside max_id id ≡ false) × (present id s.devices ≡ true) × (f ≡ numbers_of s id)
-  found_here z = go (outside max_id id) (present id s.devices) h.same
-    where
-      go : (a b : Bool) → f ≡ cond a (not_found 2) (cond b (numbers_of s id) (not_found 5)) → (a ≡ false) × (b ≡ true) × (f ≡ numbers_of s id)
-      go true b e = absurd (omega (arith, z, ap (λ (y : Found). y.refusal) e))
-      go false true e = (refl, refl, e)
-      go false false e = absurd (omega (arith, z, ap (λ (y : Found). y.refusal) e))
 
 -- ---- sizes
 

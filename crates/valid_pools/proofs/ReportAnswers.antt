@@ -1,7 +1,6 @@
 -- Laws of the answer to the call for a report.
 --
--- report_from: report_from_lem (of the device found, the rules' report), report_refused, report_told_lem (its two cases)
--- Reported: reported_of (from the device found)
+-- report_from: report_from_lem (of the device found, the rules' report), report_refused (of a device that is not found)
 use mathlib.Core.Path.{◌≡◌, refl, ap, ◌∙◌}
 use mathlib.Core.Bool.{Bool, true, false, cond}
 use Prim.Native.Nat.{ℕ, ◌*◌, ◌/◌, ◌%◌, ◌≤◌, ◌<◌}
@@ -27,20 +26,5 @@ report_from_lem {s} {id} h = ap report_from h.same ∙ go (outside max_id id) (p
     go false true = refl
     go false false = refl
 
-module _ (f : Found) where
-  pub report_refused : 0 < f.refusal → report_as (no_report f.refusal) ≡ report_from f
-  report_refused z = rw (lt-ltb 0 f.refusal z)
-
-  pub report_told_lem : f.refusal ≤ 0
-      → record {
-        refusal = 0;
-        whole = f.range * f.capacity / f.sum;
-        remainder = f.range * f.capacity % f.sum;
-        difference = pos (f.points * f.sum) -ℤ pos (f.range * f.capacity);
-      }
-      ≡ report_from f
-  report_told_lem z = rw (le-ltb 0 f.refusal z)
-
-pub reported_of : {p : Pool} {id : ℕ} {f : Found} → FoundOf p id f → (r : ReportAnswer) → r ≡ report_from f → Reported p id r
-reported_of (found v h) r e = record { valid = λ k. e ∙ report_from_lem h; invalid = λ n. absurd (n v) }
-reported_of (invalid n k) r e = record { valid = λ v. absurd (n v); invalid = λ m. e ∙ ap report_from k }
+pub report_refused : (f : Found) → 0 < f.refusal → report_as (no_report f.refusal) ≡ report_from f
+report_refused f z = rw (lt-ltb 0 f.refusal z)

@@ -1,5 +1,5 @@
 // The call for a report: what a device is exactly due, and how far its share lies from that.
-ghost use Rattle.std.specs.Prelude.{◌≡◌, ◌<◌, pos, ◌-ℤ◌};
+ghost use Rattle.std.specs.Prelude.{◌≡◌};
 ghost use Rattle.valid_pools.specs.Finding.{Measured, report_from};
 ghost use Rattle.valid_pools.specs.Promises.{Reported};
 
@@ -7,14 +7,6 @@ use crate::Report;
 use crate::finding::{Found, find_in};
 use pools::Pool;
 use refusals::Refusal;
-
-// The first number less the second, with its sign. Both fit 64 bits with a sign.
-fn minus(x: u64, y: u64) -> i64
-    requires { (x < 9223372036854775808) × (y < 9223372036854775808) }
-    ensures { result ≡ pos x -ℤ pos y }
-{
-    x as i64 - y as i64
-}
 
 // The report on a device that was found.
 pub fn report_of(device: Found) -> Report
@@ -28,7 +20,7 @@ pub fn report_of(device: Found) -> Report
     Report {
         whole,
         remainder,
-        difference: minus(held, due),
+        difference: held as i64 - due as i64,
     }
 }
 

@@ -23,7 +23,7 @@ same_parts xs ys n l m false e =
     λ f.
     let few : length (take n xs) ≡ n = omega (arith, length-take n xs) in
     let alike : take n xs ≡ take n ys = same_number_lists (take n xs) (take n ys) (omega (arith, few, length-take n ys))
-        (λ k h. rw (get_or-take n xs k 0 (omega (arith, few)), get_or-take n ys k 0 (omega (arith, few))) (f k (omega (arith, few)))) in
+    (λ k h. rw (get_or-take n xs k 0 (omega (arith, few)), get_or-take n ys k 0 (omega (arith, few))) (f k (omega (arith, few)))) in
     false≢true (e ∙ (bytes_decides (take n xs) (take n ys)).1 alike)
 
 pub returns : goal.returns

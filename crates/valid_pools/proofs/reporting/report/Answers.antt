@@ -6,7 +6,3 @@ use Rattle.valid_pools.proofs.reporting.report.Goals as goal
 pub report_of-requires : goal.report_of-requires
 report_of-requires c =
     measured_of c.find_in.ensures
-
-pub returns : goal.returns
-returns c =
-    reported_of c.find_in.ensures _ c.report_of.ensures
