@@ -12,15 +12,15 @@ use Rattle.opened.specs.OpenPools.{state_in, Open}
 use Rattle.opened.specs.declared.Opened.{Opened}
 use Rattle.calls.specs.declared.Call.{Call}
 use Rattle.calls.specs.declared.Call.TheVariants as Call
-use Rattle.history_lines.specs.declared.lines.Line.{Line}
-use Rattle.history_lines.specs.declared.lines.Line.TheVariants.{Add, Remove, Resize}
+use Rattle.history_lines.specs.declared.lines.HistoryLine.{HistoryLine}
+use Rattle.history_lines.specs.declared.lines.HistoryLine.TheVariants.{Add, Remove, Resize}
 use Rattle.history_steps.specs.Steps.{Reading, Result, refusal, applied}
 use Rattle.history_steps.specs.declared.advancing.Step.{Step}
 
 abbrev pub reading_in : Bool → Opened → List ℕ → Reading
 reading_in b o table = record { begun = b; pool = state_in o table }
 
-abbrev pub changing : Call → Line
+abbrev pub changing : Call → HistoryLine
 changing (Call.Add d c) = Add d c
 changing (Call.Remove d) = Remove d
 changing (Call.Resize d c) = Resize d c
@@ -29,7 +29,7 @@ changing (Call.Resize d c) = Resize d c
 abbrev pub result_with : Step → List ℕ → Result
 result_with s table = record { number = 0; moved = s.moved; count = s.count; after = reading_in true s.pool table }
 
-pub data Advanced (h : Reading) (l : Line) (r : Prelude.Result Step Refusal) (before after : List ℕ) : Type 0 where
+pub data Advanced (h : Reading) (l : HistoryLine) (r : Prelude.Result Step Refusal) (before after : List ℕ) : Type 0 where
   -- 'A refused line changes nothing.'
   refused : (e : Refusal) → r ≡ Err e → applied h (Ok l) ≡ refusal h (number e) → after ≡ before → Advanced h l r before after
   accepted : (s : Step) → r ≡ Ok s → applied h (Ok l) ≡ result_with s after → Open s.pool after → Advanced h l r before after

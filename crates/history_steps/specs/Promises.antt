@@ -10,8 +10,8 @@ use Rattle.refusals.specs.Replies.{number}
 use Rattle.refusals.specs.declared.Refusal.{Refusal}
 use Rattle.pools.specs.Pools.{state_of, pool_of, ValidPool}
 use Rattle.slicing.specs.Changes.{fresh, Change, add, remove, resize, Outcome, change}
-use Rattle.history_lines.specs.declared.lines.Line.{Line}
-use Rattle.history_lines.specs.declared.lines.Line.TheVariants.{Range, Add, Remove, Resize}
+use Rattle.history_lines.specs.declared.lines.HistoryLine.{HistoryLine}
+use Rattle.history_lines.specs.declared.lines.HistoryLine.TheVariants.{Range, Add, Remove, Resize}
 use Rattle.history_lines.specs.Lines.{range_outside, line_in}
 use Rattle.history_steps.specs.declared.applying.History.{History}
 use Rattle.history_steps.specs.declared.applying.LineResult.{LineResult}
@@ -30,7 +30,7 @@ ranged_line h R M =
     cond h.begun (refused h 3) (record { refusal = 0; moved = 0; count = 0; history = record { begun = true; pool = pool_of (fresh R M) } })
 
 -- '3: a change line with no range line accepted before'; else f answers the change
-abbrev pub applied_line : History → (Change → LineResult) → Result Line Refusal → LineResult
+abbrev pub applied_line : History → (Change → LineResult) → Result HistoryLine Refusal → LineResult
 applied_line h f (Err e) = refused h (number e)
 applied_line h f (Ok (Range R M)) = ranged_line h R M
 applied_line h f (Ok (Add d c)) = cond h.begun (f (add d c)) (refused h 3)
@@ -43,7 +43,7 @@ pub record ChangedLine (h : History) (k : Change) (r : LineResult) : Type 0 wher
   pub invalid : (ValidPool h.pool → ⊥) → r ≡ cond h.begun (refused h 2) (refused h 3)
 
 -- what a line says, with a range within its limits
-abbrev pub Said : History → Result Line Refusal → LineResult → Type 0
+abbrev pub Said : History → Result HistoryLine Refusal → LineResult → Type 0
 Said h (Err e) r = r ≡ refused h (number e)
 Said h (Ok (Range R M)) r = range_outside R M ≡ false → r ≡ ranged_line h R M
 Said h (Ok (Add d c)) r = ChangedLine h (add d c) r

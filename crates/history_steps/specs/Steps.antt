@@ -9,8 +9,8 @@ use Rattle.refusals.specs.Replies.{number}
 use Rattle.refusals.specs.declared.Refusal.{Refusal}
 use Rattle.slicing.specs.Changes.{State, fresh, Change, add, remove, resize, Outcome, change}
 use Rattle.slicing.specs.SixSteps.{Move, move}
-use Rattle.history_lines.specs.declared.lines.Line.{Line}
-use Rattle.history_lines.specs.declared.lines.Line.TheVariants.{Range, Add, Remove, Resize}
+use Rattle.history_lines.specs.declared.lines.HistoryLine.{HistoryLine}
+use Rattle.history_lines.specs.declared.lines.HistoryLine.TheVariants.{Range, Add, Remove, Resize}
 
 pub record Reading : Type 0 where
   pub begun : Bool
@@ -42,7 +42,7 @@ abbrev pub changed : Reading → Change → Result
 changed h k = cond h.begun (result_of (change h.pool places k)) (refusal h 3)
 
 -- '3: a range line after an accepted one'
-abbrev pub applied : Reading → Prelude.Result Line Refusal → Result
+abbrev pub applied : Reading → Prelude.Result HistoryLine Refusal → Result
 applied h (Err e) = refusal h (number e)
 applied h (Ok (Range R M)) = cond h.begun (refusal h 3) (record { number = 0; moved = 0; count = 0; after = record { begun = true; pool = fresh R M } })
 applied h (Ok (Add d c)) = changed h (add d c)

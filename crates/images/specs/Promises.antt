@@ -10,17 +10,17 @@ use Rattle.pools.specs.Pools.{state_of, pool_of, ValidPool}
 use Rattle.pools.specs.declared.Pool.{Pool}
 use Rattle.pools.specs.declared.PoolAnswer.{PoolAnswer}
 use Rattle.slicing.specs.Changes.{State, fresh}
-use Rattle.refusals.specs.Replies.{number, reply, replied, declined}
+use Rattle.refusals.specs.Replies.{number, reply_of, replied, declined}
 use Rattle.refusals.specs.declared.Refusal.{Refusal}
 use Rattle.refusals.specs.declared.Refusal.TheVariants.{Outside, ShortBuffer}
 use Rattle.image_numbers.specs.Format.{version, image_of, version_in, state_in, marked, Sound, Image}
-use Rattle.images.specs.declared.reader.Read.{Read}
+use Rattle.images.specs.declared.reader.ReadPool.{ReadPool}
 
 -- 'a refused call that makes a pool, as an image read does, gives a fresh one with R = 1 and M = 1'
 abbrev pub refusal : ℕ → PoolAnswer
 refusal n = record { refusal = n; pool = pool_of (fresh 1 1) }
 
-abbrev pub answer_of : Result Read Refusal → PoolAnswer
+abbrev pub answer_of : Result ReadPool Refusal → PoolAnswer
 answer_of (Ok r) = record { refusal = 0; pool = r.pool }
 answer_of (Err e) = refusal (number e)
 
@@ -42,6 +42,6 @@ buffer_after s before = cond (ltb (length before) (length (image_of s))) before 
 pub record WrittenAs (p : Pool) (before : List ℕ) (r : Result ℕ Refusal) (after : List ℕ) : Type 0 where
   pub valid : ValidPool p → (r ≡ write_answer (state_of p) (length before)) × (after ≡ buffer_after (state_of p) before)
   pub reply : ValidPool p
-      → reply r ≡ cond (ltb (length before) (length (image_of (state_of p)))) (declined 17) (replied (length (image_of (state_of p))))
+      → reply_of r ≡ cond (ltb (length before) (length (image_of (state_of p)))) (declined 17) (replied (length (image_of (state_of p))))
   pub invalid : (ValidPool p → ⊥) → (r ≡ Err Outside) × (after ≡ before)
-  pub invalid_reply : (ValidPool p → ⊥) → reply r ≡ declined 2
+  pub invalid_reply : (ValidPool p → ⊥) → reply_of r ≡ declined 2

@@ -10,7 +10,7 @@ use Rattle.lookup_core.specs.Probing.{owner_of}
 use Rattle.pools.specs.Pools.{state_of, ValidPool}
 use Rattle.pools.specs.declared.Pool.{Pool}
 use Rattle.slicing.specs.Limits.{max_range, outside}
-use Rattle.refusals.specs.Replies.{reply, replied, declined}
+use Rattle.refusals.specs.Replies.{reply_of, replied, declined}
 use Rattle.refusals.specs.declared.Refusal.{Refusal}
 use Rattle.refusals.specs.declared.Refusal.TheVariants.{Outside, NoDevice, PointOutside}
 use Rattle.slicing.specs.Runs.{owner_at}
@@ -27,7 +27,7 @@ probe_outside t R = ltb 255 t || outside max_range R
 
 pub record Located (block t R : ℕ) (r : Result ℕ Refusal) : Type 0 where
   pub answer : r ≡ cond (probe_outside t R) (Err Outside) (Ok (point_of block t R))
-  pub reply : reply r ≡ cond (probe_outside t R) (declined 2) (replied (point_of block t R))
+  pub reply : reply_of r ≡ cond (probe_outside t R) (declined 2) (replied (point_of block t R))
 
 -- ---- the owner of a point
 
@@ -37,16 +37,16 @@ owner_answer R n x d = cond (leb R x) (Err PointOutside) (cond (eqb n 0) (Err No
 
 pub record LookedIn (s o : List ℕ) (q n R x : ℕ) (r : Result ℕ Refusal) : Type 0 where
   pub answer : r ≡ owner_answer R n x (owner_found s o (clamped q) x)
-  pub reply : reply r ≡ cond (leb R x) (declined 13) (cond (eqb n 0) (declined 10) (replied (owner_found s o (clamped q) x)))
+  pub reply : reply_of r ≡ cond (leb R x) (declined 13) (cond (eqb n 0) (declined 10) (replied (owner_found s o (clamped q) x)))
 
 -- 'A plain call gives the owner of a point': of a valid pool, by the rules' table; any other is refused with 2
 pub record Looked (p : Pool) (x : ℕ) (r : Result ℕ Refusal) : Type 0 where
   pub valid : ValidPool p → r ≡ owner_answer p.range p.devices x (owner_at (state_of p).table x)
   pub reply : ValidPool p
-      → reply r
+      → reply_of r
       ≡ cond (leb p.range x) (declined 13) (cond (eqb p.devices 0) (declined 10) (replied (owner_at (state_of p).table x)))
   pub invalid : (ValidPool p → ⊥) → r ≡ Err Outside
-  pub invalid_reply : (ValidPool p → ⊥) → reply r ≡ declined 2
+  pub invalid_reply : (ValidPool p → ⊥) → reply_of r ≡ declined 2
 
 -- ---- copies
 

@@ -5,7 +5,7 @@
 --   Reply           a number and a value
 --   replied x       the reply of a call that is not refused: 0 and its value x
 --   declined n      the reply of a refused call: its number n and 0
---   reply r         the reply of the answer r
+--   reply_of r      the reply of the answer r
 use Rattle.std.specs.Prelude.{ℕ, Result, Ok, Err}
 use Rattle.refusals.specs.declared.Refusal.{Refusal}
 use Rattle.refusals.specs.declared.Refusal.TheVariants.{Shapeless, Outside, Misplaced, Present, Absent, Full, OnlyDevice, OverLimit, ShortList, NoDevice, CopiesOutside, FewOwners, PointOutside, Unmarked, OtherVersion, Faulty, ShortBuffer}
@@ -46,6 +46,6 @@ abbrev pub declined : ℕ → Reply
 declined n = record { number = n; value = 0 }
 
 -- 'For an answer that is an enum, a definition gives this paper's number and values for each case of the enum.'
-abbrev pub reply : Result ℕ Refusal → Reply
-reply (Ok x) = replied x
-reply (Err e) = declined (number e)
+abbrev pub reply_of : Result ℕ Refusal → Reply
+reply_of (Ok x) = replied x
+reply_of (Err e) = declined (number e)

@@ -11,7 +11,7 @@
 -- some device, and what each is due by the rule in force: valid_dealt and dealt_valid (a pool that is formed is valid exactly where its
 -- intervals are dealt so), dealt_decides, dealt_opened
 use mathlib.Core.Path.{◌≡◌, sym, ap, ◌∙◌, subst}
-use mathlib.Core.Bool.{Bool, true}
+use mathlib.Core.Bool.{Bool}
 use mathlib.Core.List.{List}
 use Prim.Native.Nat.{ℕ, ◌≤◌, ◌<◌}
 use native.Mathlib.Omega.{arith}
@@ -133,13 +133,12 @@ module _ (p : Pool) {ids capacities : List ℕ} (wi : Widened p.ids 256 ids) (wc
             held = λ i l. d.held i l ∙ sym (due_row i l) ∙ ap (owned (at ids i)) e;
           }
 
-      module _ (b : Bool) (d : Decides b (Dealt p.starts p.owners p.intervals p.range ids p.devices due)) where
-        pub dealt_decides : Decides b (ValidPool p)
-        dealt_decides =
-            decides_iff {P = Dealt p.starts p.owners p.intervals p.range ids p.devices due} {Q = ValidPool p} b dealt_valid valid_dealt d
+      pub dealt_decides : (b : Bool) → Decides b (Dealt p.starts p.owners p.intervals p.range ids p.devices due) → Decides b (ValidPool p)
+      dealt_decides b =
+          decides_iff {P = Dealt p.starts p.owners p.intervals p.range ids p.devices due} {Q = ValidPool p} b dealt_valid valid_dealt
 
-        pub dealt_opened : b ≡ true → (has table : List ℕ) → Rowed p.starts p.owners p.intervals p.range ids p.devices table
-            → ((i : ℕ) → i < p.devices → at has i ≡ owned i (runs table 0 p.intervals)) → length has ≡ 256 → length table ≡ room
-            → Opens p (opened_with p ids capacities has) table
-        dealt_opened z has table r h s t =
-            pool_opened has table r.same (subst (λ (x : Bool). Decides x (ValidPool p)) z dealt_decides) r.labels h s t
+      pub dealt_opened : Dealt p.starts p.owners p.intervals p.range ids p.devices due
+          → (has table : List ℕ) → Rowed p.starts p.owners p.intervals p.range ids p.devices table
+          → ((i : ℕ) → i < p.devices → at has i ≡ owned i (runs table 0 p.intervals)) → length has ≡ 256 → length table ≡ room
+          → Opens p (opened_with p ids capacities has) table
+      dealt_opened d has table r h s t = pool_opened has table r.same (dealt_valid d) r.labels h s t

@@ -1,13 +1,18 @@
 -- Laws of a device found by its id.
 --
--- made: found_present (its row)
--- used: found_refused (a call that refuses with the same numbers)
--- Measured: measured_refused (a refusal), measured_in (of a valid state), measured_of (of any pool)
+--   with_device f r      the answer r with f of the device that was found
+--
+-- made: found_two (an id outside its limits), found_five, found_present (its row)
+-- used: found_as (a call that answers f of the device, or the same refusal)
+-- Measured: measured_in (of a valid state), measured_of (of any pool)
 use mathlib.Core.Path.{◌≡◌, refl, sym, ap, ◌∙◌}
 use mathlib.Core.Bool.{Bool, true, false, cond}
 use mathlib.Core.List.{List}
 use Prim.Native.Nat.{ℕ, ◌≤◌, ◌<◌}
 use native.Mathlib.Omega.{arith}
+use Rattle.std.specs.Prelude.{Result, Ok, Err}
+use Rattle.refusals.specs.declared.Refusal.{Refusal}
+use Rattle.refusals.specs.declared.Refusal.TheVariants.{Outside, Absent}
 use Rattle.slicing.specs.Changes.{State}
 use Rattle.slicing.specs.Devices.{device, capacities, present, capacity_of}
 use Rattle.slicing.specs.Limits.{max_id, outside}
@@ -21,7 +26,7 @@ use Rattle.opened.specs.declared.Opened.{Opened}
 use Rattle.opened.specs.OpenPools.{devices_in, state_in, Open}
 use Rattle.opened.proofs.OpenPools.{open_ascending, open_share}
 use Rattle.pools.specs.declared.Pool.{Pool}
-use Rattle.valid_pools.specs.Finding.{not_found, numbers_of, FoundIn, FoundOf, found, invalid, Measured}
+use Rattle.valid_pools.specs.Finding.{numbers_of, FoundIn, FoundOf, found, invalid, Measured}
 use Rattle.valid_pools.specs.declared.finding.Found.{Found}
 
 module _ {o : Opened} {table : List ℕ} (h : Open o table) (id row : ℕ) (l : row < o.devices) (i : at o.ids row ≡ id) where
@@ -33,42 +38,59 @@ module _ {o : Opened} {table : List ℕ} (h : Open o table) (id row : ℕ) (l : 
 
   pub found_present : outside max_id id ≡ false
       → FoundIn (state_in o table) id
-      (record { refusal = 0; range = o.range; capacity = at o.capacities row; sum = capacities (devices_in o); points = at o.has row })
+      (Ok (record { range = o.range; capacity = at o.capacities row; sum = capacities (devices_in o); points = at o.has row }))
   found_present e = record {
     same = rw (e, position_present o.ids o.capacities o.devices id row l i)
-        (λ j. record { refusal = 0; range = o.range; capacity = capacity_at j; sum = capacities (devices_in o); points = points_at j });
+        (λ j. Ok (record { range = o.range; capacity = capacity_at j; sum = capacities (devices_in o); points = points_at j }));
   }
+
+pub found_two : (s : State) (id : ℕ) → outside max_id id ≡ true → FoundIn s id (Err Outside)
+found_two s id o = record { same = rw o }
+
+pub found_five : (s : State) (id : ℕ) → outside max_id id ≡ false → present id s.devices ≡ false → FoundIn s id (Err Absent)
+found_five s id o a = record { same = rw (o, a) }
 
 -- ---- what a call makes of it
 
-module _ {s : State} {id : ℕ} {f : Found} (h : FoundIn s id f) where
-  pub found_refused : {A : Type 0} (g : ℕ → A) (x : A) → 0 < f.refusal → g f.refusal ≡ cond (outside max_id id) (g 2) (cond (present id s.devices) x (g 5))
-  found_refused g x z = go (outside max_id id) (present id s.devices) h.same
-    where
-      go : (a b : Bool) → f ≡ cond a (not_found 2) (cond b (numbers_of s id) (not_found 5)) → g f.refusal ≡ cond a (g 2) (cond b x (g 5))
-      go true b e = ap (λ (y : Found). g y.refusal) e
-      go false true e = absurd (omega (arith, z, ap (λ (y : Found). y.refusal) e))
-      go false false e = ap (λ (y : Found). g y.refusal) e
+abbrev pub with_device : {A : Type 0} → (Found → A) → Result Found Refusal → Result A Refusal
+with_device f (Ok d) = Ok (f d)
+with_device f (Err e) = Err e
+
+pub found_as : {A : Type 0} {s : State} {id : ℕ} {r : Result Found Refusal} (f : Found → A) → FoundIn s id r
+    → with_device f r ≡ cond (outside max_id id) (Err Outside) (cond (present id s.devices) (Ok (f (numbers_of s id))) (Err Absent))
+found_as {A} {s} {id} f h = ap (with_device f) h.same ∙ go (outside max_id id) (present id s.devices)
+  where
+    go : (a b : Bool)
+        → with_device f (cond a (Err Outside) (cond b (Ok (numbers_of s id)) (Err Absent)))
+        ≡ cond a (Err Outside) (cond b (Ok (f (numbers_of s id))) (Err Absent))
+    go true b = refl
+    go false true = refl
+    go false false = refl
 
 -- ---- sizes
 
-pub measured_refused : (n : ℕ) → 0 < n → Measured (not_found n)
-measured_refused n l = record { due = omega arith; held = omega arith; some = λ z. absurd (omega (arith, l, z)) }
+abbrev accepted : Result Found Refusal → ℕ
+accepted (Ok d) = 1
+accepted (Err e) = 0
 
-pub measured_in : {s : State} {id : ℕ} {f : Found} → Valid s → FoundIn s id f → Measured f
-measured_in {s} {id} v h = rw h.same (go (outside max_id id) (present id s.devices) refl)
+abbrev device_or : Found → Result Found Refusal → Found
+device_or g (Ok d) = d
+device_or g (Err e) = g
+
+pub measured_in : {s : State} {id : ℕ} {f : Found} → Valid s → FoundIn s id (Ok f) → Measured f
+measured_in {s} {id} {f} v h = go (outside max_id id) (present id s.devices) refl h.same
   where
     here : present id s.devices ≡ true → Measured (numbers_of s id)
     here p =
         let m = capacity_of_member id s.devices p in
         let k = report_sizes s.range s.devices v.rising (device id (capacity_of s.devices id)) m v.most v.few in
-        record { due = k.0; held = k.1; some = λ z. rising_some 0 s.devices v.rising m }
+        record { due = k.0; held = k.1; some = rising_some 0 s.devices v.rising m }
 
-    go : (a b : Bool) → present id s.devices ≡ b → Measured (cond a (not_found 2) (cond b (numbers_of s id) (not_found 5)))
-    go true b e = measured_refused 2 (omega arith)
-    go false true e = here e
-    go false false e = measured_refused 5 (omega arith)
+    go : (a b : Bool) → present id s.devices ≡ b → Ok f ≡ cond a (Err Outside) (cond b (Ok (numbers_of s id)) (Err Absent)) → Measured f
+    go true b e q = let z : ◌≡◌ {A = ℕ} 1 0 = ap accepted q in absurd (omega (arith, z))
+    go false true e q = rw (ap (device_or f) q) (here e)
+    go false false e q = let z : ◌≡◌ {A = ℕ} 1 0 = ap accepted q in absurd (omega (arith, z))
 
-pub measured_of : {p : Pool} {id : ℕ} {f : Found} → FoundOf p id f → Measured f
+pub measured_of : {p : Pool} {id : ℕ} {f : Found} → FoundOf p id (Ok f) → Measured f
 measured_of (found v h) = measured_in v.valid h
-measured_of (invalid n e) = rw e (measured_refused 2 (omega arith))
+measured_of (invalid n e) = let z : ◌≡◌ {A = ℕ} 1 0 = ap accepted e in absurd (omega (arith, z))

@@ -1,4 +1,4 @@
 pub mod HeldRows
 pub mod CheckedPools
 pub mod FoundDevices
-pub mod ReportAnswers
+pub mod DeviceAnswers

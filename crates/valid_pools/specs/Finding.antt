@@ -15,7 +15,7 @@ use Rattle.slicing.specs.Limits.{max_id, outside}
 use Rattle.slicing.specs.ShareRule.{share_of}
 use Rattle.pools.specs.Pools.{state_of, ValidPool}
 use Rattle.pools.specs.declared.Pool.{Pool}
-use Rattle.valid_pools.specs.declared.Report.{Report}
+use Rattle.valid_pools.specs.declared.DeviceReport.{DeviceReport}
 use Rattle.valid_pools.specs.declared.finding.Found.{Found}
 
 abbrev pub numbers_of : State → ℕ → Found
@@ -42,7 +42,7 @@ pub record Measured (f : Found) : Type 0 where
   pub held : f.points * f.sum ≤ 68719476736000000 + 256 * 4096000000
   pub some : 1 ≤ f.sum
 
-abbrev pub report_from : Found → Report
+abbrev pub report_from : Found → DeviceReport
 report_from f = record {
   whole = f.range * f.capacity / f.sum;
   remainder = f.range * f.capacity % f.sum;

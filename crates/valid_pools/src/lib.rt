@@ -14,7 +14,7 @@ pub use sharing::share;
 
 // A report: R × c divided by C as a whole number; the remainder; share × C − R × c.
 #[derive(Clone, Copy)]
-pub struct Report {
+pub struct DeviceReport {
     pub whole: u64,
     pub remainder: u64,
     pub difference: i64,

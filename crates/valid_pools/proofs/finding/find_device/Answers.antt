@@ -1,20 +1,21 @@
 -- `valid_pools::finding::find_device` meets its contract: each return by the answers that led there.
-use mathlib.Core.Path.{◌≡◌, sym, ◌∙◌}
-use mathlib.Core.Bool.{Bool, true, false, not}
-use mathlib.Core.List.{List}
-use Prim.Native.Nat.{ℕ, ◌<◌}
+use mathlib.Core.Path.{sym, ◌∙◌}
 use native.Mathlib.Omega.{arith}
-use borrow.Author.Tests.{not-true, not-false}
-use Rattle.slicing.specs.Limits.{max_id, outside}
-use Rattle.opened.specs.OpenPools.{Open}
-use Rattle.opened.specs.declared.Opened.{Opened}
 use Rattle.opened.proofs.OpenPools.{open_few, open_rising, open_ascending}
 use Rattle.valid_pools.proofs.FoundDevices.{found_two, found_five, found_present}
 use Rattle.valid_pools.proofs.finding.find_device.Goals as goal
 
-pub find-place-requires : goal.find-place-requires
-find-place-requires c =
+pub returns-then-outside : goal.returns-then-outside
+returns-then-outside c =
+    found_two _ _ (sym c.outside.ensures ∙ c.if-outside.true)
+
+pub find-requires : goal.find-requires
+find-requires c =
     let h = c.requires in (open_few h, open_ascending h)
+
+pub returns-in_default : goal.returns-in_default
+returns-in_default c =
+    found_five _ _ (sym c.outside.ensures ∙ c.if-outside.false) (c.in_default.ensures.1 _)
 
 pub sum-requires : goal.sum-requires
 sum-requires c =
@@ -22,7 +23,4 @@ sum-requires c =
 
 pub returns : goal.returns
 returns c =
-    let admitted : outside max_id c.args.id ≡ false = sym c.outside.ensures ∙ c.if-outside.false in
-    let there : c.find-place.result.present ≡ true = not-false c.find-place.result.present c.if-not-place.false in
-    let row = c.find-place.ensures.found (there) in
-    rw c.sum.ensures (found_present c.requires _ _ row.0 row.1 (admitted))
+    rw c.sum.ensures (found_present c.requires _ _ c.in-Ok.ensures.1 c.in-Ok.ensures.2 (sym c.outside.ensures ∙ c.if-outside.false))

@@ -1,11 +1,10 @@
 -- `valid_pools::opening::open_cleared` meets its contract: each part of validity is decided by a call, and the arrays hold the pool's numbers.
-use mathlib.Core.Path.{◌≡◌}
+use mathlib.Core.Bool.{true, false}
 use Prim.Native.Nat.{ℕ}
 use native.Mathlib.Omega.{arith}
-use lib.ListN.{length, length-replicate}
+use lib.ListN.{length-replicate}
 use borrow.Author.Rules.{rules}
 use Rattle.pools.specs.Pools.{Formed}
-use Rattle.pools.specs.declared.Pool.{Pool}
 use Rattle.valid_pools.proofs.CheckedPools.{valid_formed, entered_opens, filled_opens, wide_ascending, wide_below}
 use Rattle.valid_pools.proofs.CheckedPools.{empty_valid, empty_opened, dealt_decides, dealt_opened}
 use Rattle.valid_pools.proofs.opening.open_cleared.Goals as goal
@@ -27,16 +26,25 @@ returns-then-n-eq0-clause-opened c =
     let n = c.entered-opened.ensures in
     let t = c.args.table.now in
     let m : Formed p = rw c.if-not-formed.false at c.formed.ensures in
-    λ e. entered_opens n t
+    entered_opens n t
     (empty_opened p n.ids n.capacities (search rules) (search rules) m _ t c.if-n-eq0.true (length-replicate {A = ℕ} 256 0) c.requires.1)
 
-pub dealt-fair-requires : goal.dealt-fair-requires
-dealt-fair-requires c =
+pub dealt-requires : goal.dealt-requires
+dealt-requires c =
     let p = c.args.pool in
     let n = c.entered-opened.ensures in
     let m : Formed p = rw c.if-not-formed.false at c.formed.ensures in
     let l = m.limited in
     (omega (arith, l.fits, l.room_most), l.some, l.most, l.few, wide_ascending p n.ids n.capacities m, wide_below p n.ids n.capacities m, c.requires.1)
+
+pub returns-in_default-clause-valid : goal.returns-in_default-clause-valid
+returns-in_default-clause-valid c =
+    let p = c.args.pool in
+    let n = c.entered-opened.ensures in
+    let m : Formed p = rw c.if-not-formed.false at c.formed.ensures in
+    let due = c.shares-due in
+    dealt_decides p n.ids n.capacities (search rules) (search rules) m (omega (arith, c.if-n-eq0.false)) due.result due.ensures.shares
+    false c.in_default.ensures.fair
 
 pub returns-clause-valid : goal.returns-clause-valid
 returns-clause-valid c =
@@ -44,9 +52,8 @@ returns-clause-valid c =
     let n = c.entered-opened.ensures in
     let m : Formed p = rw c.if-not-formed.false at c.formed.ensures in
     let due = c.shares-due in
-    let found = c.dealt-fair in
     dealt_decides p n.ids n.capacities (search rules) (search rules) m (omega (arith, c.if-n-eq0.false)) due.result due.ensures.shares
-    found.result.fair found.ensures.fair
+    true c.in-Some.ensures.fair
 
 pub returns-clause-opened : goal.returns-clause-opened
 returns-clause-opened c =
@@ -54,8 +61,7 @@ returns-clause-opened c =
     let n = c.entered-opened.ensures in
     let m : Formed p = rw c.if-not-formed.false at c.formed.ensures in
     let due = c.shares-due in
-    let found = c.dealt-fair in
-    λ z. filled_opens n _ found.result.has
+    let dealt = c.in-Some.ensures in
+    filled_opens n _ c.in-Some.has
     (dealt_opened p n.ids n.capacities (search rules) (search rules) m (omega (arith, c.if-n-eq0.false)) due.result due.ensures.shares
-    found.result.fair found.ensures.fair z found.result.has _ (found.ensures.rows z).0 (found.ensures.rows z).1 found.ensures.has_len.0
-    found.ensures.has_len.1)
+    dealt.fair c.in-Some.has _ dealt.rows.0 dealt.rows.1 dealt.rows.2 dealt.table_len)
