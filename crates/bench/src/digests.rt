@@ -9,10 +9,8 @@ pub extern "C" fn bench_sha1_chain(count: u64) -> u32
     ensures { result ≡ chain count }
 {
     let mut word = 0;
-    let mut i = 0;
-    while i < count {
+    for i in 0..count {
         word = sha1_digest::first_word(i, word);
-        i += 1;
     }
     word
 }

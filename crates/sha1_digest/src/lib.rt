@@ -22,8 +22,7 @@ pub struct DigestAnswer {
 pub fn digest(message: &[u8]) -> DigestAnswer
     ensures { Digested message.now result }
 {
-    let n = message.len();
-    if n > message::LIMIT {
+    if message.len() > message::LIMIT {
         return DigestAnswer {
             refusal: 2,
             words: [0; 5],
@@ -41,8 +40,8 @@ pub fn first_word(high: u64, low: u32) -> u32
     ensures { result ≡ get_or (Fips.digest (bytes 8 high ++ bytes 4 low)) 0 0 }
 {
     let mut m = [0u32; 16];
-    m[0] = (high / 4294967296) as u32;
-    m[1] = (high % 4294967296) as u32;
+    m[0] = (high >> 32) as u32;
+    m[1] = (high % (1 << 32)) as u32;
     m[2] = low;
     m[3] = 0x80000000;
     m[15] = 96;

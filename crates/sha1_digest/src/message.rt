@@ -29,24 +29,11 @@ fn padded_byte(message: &[u8], at: usize) -> u8
     if at == n {
         return 0x80;
     }
-    let behind = 64 * blocks(n) - 1 - at;
-    if behind >= 8 {
+    let field = 64 * blocks(n) - 8;
+    if at < field {
         return 0;
     }
-    (((8 * n) >> (8 * behind)) % 256) as u8
-}
-
-fn wide(byte: u8) -> u32
-    ensures { result ≡ byte }
-{
-    byte as u32
-}
-
-// Four bytes as a word, the first the highest.
-fn joined(a: u8, b: u8, c: u8, d: u8) -> u32
-    ensures { result ≡ a * 2 ^ 24 + b * 2 ^ 16 + c * 2 ^ 8 + d }
-{
-    wide(a) * 16777216 + wide(b) * 65536 + wide(c) * 256 + wide(d)
+    (8 * n).to_be_bytes()[at - field]
 }
 
 // The word of the padded message whose first byte is byte `at`.
@@ -55,19 +42,19 @@ fn padded_word(message: &[u8], at: usize) -> u32
     ensures { result ≡ word (pad message.now) at }
 {
     if at + 4 <= message.len() {
-        return joined(
+        return u32::from_be_bytes([
             message[at],
             message[at + 1],
             message[at + 2],
             message[at + 3],
-        );
+        ]);
     }
-    joined(
+    u32::from_be_bytes([
         padded_byte(message, at),
         padded_byte(message, at + 1),
         padded_byte(message, at + 2),
         padded_byte(message, at + 3),
-    )
+    ])
 }
 
 // The sixteen words of block i, counted from 0.
@@ -76,10 +63,8 @@ fn load(message: &[u8], i: usize) -> [u32; 16]
     ensures { result ≡ block (pad message.now) i }
 {
     let mut m = [0u32; 16];
-    let mut t = 0;
-    while t < 16 {
+    for t in 0..16 {
         m[t] = padded_word(message, 64 * i + 4 * t);
-        t += 1;
     }
     m
 }
@@ -89,13 +74,9 @@ pub fn hash(message: &[u8]) -> Hash
     requires { length message.now ≤ limit }
     ensures { result ≡ Fips.H (pad message.now) (N message.now) }
 {
-    let n = blocks(message.len());
     let mut h = Hash::new();
-    let mut i = 0;
-    while i < n {
-        let m = load(message, i);
-        h = compress(h, &m);
-        i += 1;
+    for i in 0..blocks(message.len()) {
+        h = compress(h, &load(message, i));
     }
     h
 }

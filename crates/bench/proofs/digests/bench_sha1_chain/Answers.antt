@@ -18,8 +18,8 @@ pub loop-i-preserved : goal.loop-i-preserved
 unfolding chain
 loop-i-preserved c =
     let turn = c.loop-i in
-    (omega arith, rw add-one (c.first_word-word.ensures ∙ ap (λ x. get_or (digest (bytes 8 turn.i ++ bytes 4 x)) 0 0) turn.invariant.1))
+    rw add-one (c.first_word-word.ensures ∙ ap (λ x. get_or (digest (bytes 8 turn.i ++ bytes 4 x)) 0 0) turn.invariant)
 
 pub returns : goal.returns
 returns c =
-    c.loop-i.invariant.1 ∙ ap chain (omega arith)
+    c.loop-i.invariant ∙ ap chain (omega arith)

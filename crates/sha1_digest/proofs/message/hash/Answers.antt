@@ -11,21 +11,19 @@ use Rattle.sha1_digest.proofs.message.hash.Goals as goal
 pub loop-i-init : goal.loop-i-init
 unfolding H
 loop-i-init c =
-    (omega arith, c.new-h.ensures)
+    c.new-h.ensures
 
-pub load-m-requires : goal.load-m-requires
-load-m-requires c =
+pub load-requires : goal.load-requires
+load-requires c =
     omega (arith, length_pad c.args.message.now)
 
 pub loop-i-preserved : goal.loop-i-preserved
 unfolding H
-loop-i-preserved c = (
-  omega arith,
-  rw add-one (c.compress-h.ensures ∙ ap₂ compress c.loop-i.invariant.1 c.load-m.ensures),
-)
+loop-i-preserved c =
+    rw add-one (c.compress-h.ensures ∙ ap₂ compress c.loop-i.invariant c.load.ensures)
 
 pub returns : goal.returns
 returns c =
     let m : List ℕ = c.args.message.now in
     let e : c.loop-i.i ≡ N m = omega (arith, N-blocks m) in
-    c.loop-i.invariant.1 ∙ ap (H (pad m)) e
+    c.loop-i.invariant ∙ ap (H (pad m)) e

@@ -1,4 +1,4 @@
--- `sha1_digest::message::load` meets its contract. The loop's invariant: the first `t` words of `w` are the block's.
+-- `sha1_digest::message::load` meets its contract. The loop's invariant: the first `t` words of `m` are the block's.
 use mathlib.Core.Path.{◌≡◌, sym, ◌∙◌}
 use native.Mathlib.Numerals.{add-one}
 use native.Mathlib.Omega.{arith}
@@ -20,9 +20,8 @@ overflow_add-i c =
 pub loop-t-preserved : goal.loop-t-preserved
 loop-t-preserved c =
     let pass = c.loop-t in (
-      omega arith,
-      length-set pass.m pass.t _ ∙ pass.invariant.1,
-      rw (add-one, take-suc-set pass.m pass.t c.padded_word.result (omega arith), words_from_suc, pass.invariant.2, c.padded_word.ensures),
+      length-set pass.m pass.t _ ∙ pass.invariant.0,
+      rw (add-one, take-suc-set pass.m pass.t c.padded_word.result (omega arith), words_from_suc, pass.invariant.1, c.padded_word.ensures),
     )
 
 pub returns : goal.returns
@@ -30,4 +29,4 @@ unfolding block
 returns c =
     let pass = c.loop-t in
     let e : pass.t ≡ 16 = omega arith in
-    sym (take_all 16 pass.m (omega arith)) ∙ (rw e at pass.invariant.2)
+    sym (take_all 16 pass.m (omega arith)) ∙ (rw e at pass.invariant.1)

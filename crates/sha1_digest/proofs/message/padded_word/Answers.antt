@@ -10,7 +10,7 @@ overflow_add-at c =
 
 pub returns-then-at-message : goal.returns-then-at-message
 returns-then-at-message c =
-    c.joined.ensures ∙ sym (word_pad c.args.message.now c.args.at (omega arith))
+    c.from_be_bytes.ensures ∙ sym (word_pad c.args.message.now c.args.at (omega arith))
 
 pub overflow_add-at-2 : goal.overflow_add-at-2
 overflow_add-at-2 c =
