@@ -5,8 +5,8 @@
 --
 -- labels: turn_join, turn_self, differ_turn, coalesced_turn
 -- given: given_none, given_whole, given_part
--- Filling: filling_none, filling_more (a row of the queue is left while a taken piece is), filling_small, filling_push and
--- filling_turn (what `push` asks), filling_empty, filling_kept, filling_whole, filling_part, filling_end
+-- Filling: filling_none, filling_more (a row of the queue is left while a taken piece is), filling_push and filling_turn
+-- (what `push` asks), filling_empty, filling_kept, filling_whole, filling_part, filling_end
 use mathlib.Core.Path.{◌≡◌, refl, sym, ap, ◌∙◌}
 use mathlib.Core.Bool.{Bool, true, false, ◌&&◌}
 use mathlib.Core.List.{List, [], ◌∷◌, ◌++◌, map, map-append, append_assoc, append-nil}
@@ -169,9 +169,6 @@ module _ {ts : List (Run Turn)} {p n : ℕ} {pieces queue turns : List ℕ} {cou
 
     piece_here : (m : Piece) → piece_of label ≡ m → pieces_of pieces i (p - i) ≡ (size of m) ∷ pieces_of pieces (i + 1) (p - (i + 1))
     piece_here m e = rw (runs_step pieces i p h, e)
-
-    pub filling_small : size < 2 ^ 48
-    filling_small = omega (arith, w.small, ap total (runs_step pieces i p h))
 
     -- what `push` asks
     pub filling_push : p + n ≤ room → (k x : ℕ) → k ≤ size → x < 65536

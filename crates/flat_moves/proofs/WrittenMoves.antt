@@ -3,22 +3,20 @@
 --   Listed turns t names lent list count start i     of t turns, i were passed; their moves, so many, stand in front of the list,
 --                                                    and behind them what was lent; turn i begins at point `start`
 --
--- Listed: listed_none, listed_on (a turn that changes nothing), listed_more, listed_end;
--- listed_size (the list's length stays), listed_room (for one move more), listed_points (of a turn, which are no more than are left)
-use mathlib.Core.Path.{◌≡◌, refl, sym, ap, ◌∙◌}
+-- Listed: listed_on (a turn that changes nothing), listed_more; listed_size (the list's length stays), listed_room (for one move more)
+use mathlib.Core.Path.{◌≡◌, ap, ◌∙◌}
 use mathlib.Core.List.{List, [], ◌∷◌, ◌++◌, map, append_assoc, map-append}
 use Prim.Native.Nat.{ℕ, ◌+◌, ◌*◌, ◌/◌, ◌%◌, ◌≤◌, ◌<◌}
 use native.Mathlib.Omega.{arith}
 use lib.ListN.{length, take, drop, length-append, length-map, length-drop}
 use lib.Seq.{take_at}
-use Rattle.slicing.specs.Runs.{total}
+use Rattle.std.proofs.lemmas.Slice.{drop-append-drop}
 use Rattle.slicing.specs.SixSteps.{Move}
 use Rattle.slicing_core.specs.Rows.{at}
-use Rattle.packed_runs.specs.Words.{runs}
-use Rattle.six_steps.proofs.PassedTurns.{moves_all, Passed, passed_none, passed_on, passed_more, passed_end, passed_points, passed_length, passed_room}
+use Rattle.six_steps.proofs.PassedTurns.{moves_all, Passed, passed_on, passed_more, passed_length, passed_room}
 use Rattle.six_steps.proofs.Renaming.{move_as}
 use Rattle.flat_moves.specs.FlatMoves.{flat}
-use Rattle.flat_moves.proofs.FlatLists.{flat_append, length_flat, drop_append_drop}
+use Rattle.flat_moves.proofs.FlatLists.{flat_append, length_flat}
 
 -- the numbers of moves, by the ids that name the rows
 abbrev numbers_of : List ℕ → List Move → List ℕ
@@ -30,17 +28,9 @@ pub record Listed (turns : List ℕ) (t : ℕ) (names lent list : List ℕ) (cou
   pub counted : length moves ≡ count
   pub written : list ≡ numbers_of names moves ++ drop (4 * count) lent
 
-pub listed_none : (turns : List ℕ) (t : ℕ) (names lent : List ℕ) → Listed turns t names lent lent 0 0 0
-listed_none turns t names lent = record { moves = []; passed = passed_none turns t; counted = refl; written = refl }
-
 module _ {turns : List ℕ} {t : ℕ} {names lent list : List ℕ} {count start i : ℕ} (w : Listed turns t names lent list count start i) where
   front : length (numbers_of names w.moves) ≡ 4 * count
   front = omega (arith, length_flat (map (move_as (at names)) w.moves), length-map w.moves (move_as (at names)), w.counted)
-
-  pub listed_end : t ≤ i → list ≡ numbers_of names (moves_all turns t) ++ drop (4 * length (moves_all turns t)) lent
-  listed_end h =
-      w.written ∙ ap (λ n. numbers_of names w.moves ++ drop (4 * n) lent) (sym w.counted)
-      ∙ ap (λ ms. numbers_of names ms ++ drop (4 * length ms) lent) (passed_end w.passed h)
 
   pub listed_size : 4 * length (moves_all turns t) ≤ length lent → length list ≡ length lent
   listed_size fits =
@@ -61,9 +51,6 @@ module _ {turns : List ℕ} {t : ℕ} {names lent list : List ℕ} {count start 
     abbrev turn : ℕ
     turn = at turns i % 65536
 
-    pub listed_points : start + size ≤ total (runs turns 0 t)
-    listed_points = passed_points w.passed h
-
     pub listed_on : turn / 256 ≡ turn % 256 → Listed turns t names lent list count (start + size) (i + 1)
     listed_on same = record { moves = _; passed = passed_on w.passed h same; counted = w.counted; written = w.written }
 
@@ -81,5 +68,5 @@ module _ {turns : List ℕ} {t : ℕ} {names lent list : List ℕ} {count start 
             passed = passed_more w.passed h differ;
             counted = length-append w.moves (_ ∷ []) ∙ ap (λ n. n + 1) w.counted;
             written =
-                e ∙ rw (w.written, take_at _ _ (4 * count) front, drop_append_drop _ lent (4 * count) 4 front, four, map-append, flat_append, append_assoc);
+                e ∙ rw (w.written, take_at _ _ (4 * count) front, drop-append-drop (4 * count) lent _ (4 * count + 4) (omega arith) front, four, map-append, flat_append, append_assoc);
           }

@@ -1,9 +1,9 @@
 -- Laws of a run put behind others.
 --
--- Put: put_none, put_more, put_marks
--- Pushed: pushed_none, pushed_more, pushed_put (the three ways of push), pushed_total
+-- Put: put_more, put_marks
+-- Pushed: pushed_more, pushed_put (the two ways in which push writes), pushed_total
 use mathlib.Core.Path.{◌≡◌, refl, ap, ◌∙◌}
-use mathlib.Core.List.{List, [], ◌∷◌, ◌++◌, append_assoc, append-nil}
+use mathlib.Core.List.{List, [], ◌∷◌, ◌++◌, append_assoc}
 use Prim.Native.Nat.{ℕ, zero, suc, ◌+◌, ◌-◌, ◌*◌, ◌/◌, ◌%◌, ◌≤◌, ◌<◌, min}
 use native.Mathlib.Omega.{arith}
 use lib.Dec.{eqb}
@@ -21,14 +21,6 @@ use Rattle.packed_runs.proofs.Words.{word_size, word_label, more_size, more_labe
 -- ---- put
 
 module _ (xs : List ℕ) (n k x : ℕ) (size : length xs ≡ room) where
-  pub put_none : k ≡ 0 → Put xs n k x xs n
-  put_none z = record {
-    size = size;
-    all = rw (z, append-nil);
-    most = omega arith;
-    labels = λ j h l. l;
-  }
-
   pub put_more : (k ≡ 0 → ⊥) → n + min 1 k ≤ room → x < 65536 → Put xs n k x (set xs n (k * 65536 + x)) (n + 1)
   put_more p f l = record {
     size = length-set xs n (k * 65536 + x) ∙ size;
@@ -54,14 +46,6 @@ put_marks {xs} {ys} {n} {k} {x} {m} y rs p e =
 -- ---- push
 
 module _ (xs : List ℕ) (n k x : ℕ) (held : Held xs n (min 1 k)) where
-  pub pushed_none : k ≡ 0 → Pushed xs n k x xs n
-  pushed_none z = record {
-    size = held.size;
-    coalesced = held.coalesced;
-    points = rw (z, append-nil);
-    most = omega arith;
-  }
-
   pub pushed_more : 1 ≤ n → at xs (n - 1) % 65536 ≡ x → Pushed xs n k x (set xs (n - 1) (at xs (n - 1) + k * 65536)) n
   pushed_more b e = record {
     size = length-set xs (n - 1) (at xs (n - 1) + k * 65536) ∙ held.size;

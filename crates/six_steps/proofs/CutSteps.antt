@@ -3,25 +3,24 @@
 --   Cutting ps table q release pieces count i flag touch     where the cutting stands, before interval i: the pieces written and
 --                                                            those of the walk from there on are the pieces ps that are not empty
 --
--- Cutting: cutting_none, cutting_small and cutting_room (what the calls of `put` ask), cutting_pass, cutting_step, cutting_end
+-- Cutting: cutting_pass (an interval whose owner has nothing to release), cutting_step
 use mathlib.Core.Path.{◌≡◌, ◌∙◌, fun_ext}
 use mathlib.Core.Bool.{Bool, false}
-use mathlib.Core.List.{List, ◌∷◌, ◌++◌, append-nil}
-use Prim.Native.Nat.{ℕ, ◌+◌, ◌-◌, ◌*◌, ◌/◌, ◌%◌, ◌^◌, ◌≤◌, ◌<◌, min}
+use mathlib.Core.List.{List, ◌∷◌, ◌++◌}
+use Prim.Native.Nat.{ℕ, ◌+◌, ◌-◌, ◌*◌, ◌/◌, ◌%◌, ◌≤◌, ◌<◌}
 use native.Mathlib.Omega.{arith}
-use native.Mathlib.Nat.{sub-zero}
 use lib.Dec.{eqb}
 use lib.ListN.{length, set, length-set}
 use borrow.Author.Tests.{lt-ltb, le-ltb, eq-eqb}
-use Rattle.slicing.specs.Runs.{Run, ◌of◌, one, total}
-use Rattle.slicing.specs.SixSteps.{end, Piece, kept, taken, less, walk}
+use Rattle.slicing.specs.Runs.{Run, ◌of◌, one}
+use Rattle.slicing.specs.SixSteps.{Piece, kept, taken, less, walk}
 use Rattle.slicing_core.specs.Rows.{at}
 use Rattle.slicing_core.specs.Stages.{side, CutTo}
 use Rattle.slicing_core.specs.declared.cuts.Cut.{Cut}
-use Rattle.slicing_core.proofs.Cutting.{cut_to_whole, cut_to_pieces, walk_cut}
+use Rattle.slicing_core.proofs.Cutting.{cut_to_pieces, walk_cut}
 use Rattle.packed_runs.specs.Words.{room, runs, piece_of, pieces_of, present, Labelled}
 use Rattle.packed_runs.specs.Stages.{Put}
-use Rattle.packed_runs.proofs.Words.{runs_step, runs_end, at_total}
+use Rattle.packed_runs.proofs.Words.{runs_step}
 use Rattle.packed_runs.proofs.Pushing.{put_marks}
 
 mark_kept : (d : ℕ) → d < 256 → piece_of d ≡ kept d
@@ -40,21 +39,6 @@ module _ (ps : List (Run Piece)) (table : List ℕ) (q : ℕ) where
     pub few : count ≤ 2 * i
     pub passed : i ≤ q
     pub labels : Labelled 512 pieces count
-
-pub cutting_none : (table release pieces : List ℕ) (q : ℕ) → length release ≡ 256 → length pieces ≡ room
-    → Cutting (walk (at release) end false (runs table 0 q)) table q release pieces 0 0 false false
-cutting_none table release pieces q r p = record {
-  owed = r;
-  size = p;
-  all = rw (sub-zero q);
-  few = omega arith;
-  passed = omega arith;
-  labels = λ i h. absurd (omega arith);
-}
-
-pub cutting_end : {ps : List (Run Piece)} {table release pieces : List ℕ} {q count i : ℕ} {flag touch : Bool}
-    → Cutting ps table q release pieces count i flag touch → q ≤ i → pieces_of pieces 0 count ≡ present ps
-cutting_end {ps} {table} {release} {pieces} {q} {count} {i} w h = rw (runs_end table i q h, append-nil) at w.all
 
 -- an interval whose owner has nothing to release
 pub cutting_pass : {ps : List (Run Piece)} {table release pieces pieces' : List ℕ} {q count i m : ℕ} {flag touch : Bool}
@@ -94,15 +78,6 @@ module _ {ps : List (Run Piece)} {table release pieces : List ℕ} {q count i : 
   walk_open =
       rw (runs_step table i q h)
       (walk_cut release flag touch (at table i / 65536) d c (runs table (i + 1) (q - (i + 1))) t (omega (arith, w.owed)))
-
-  -- each piece is small
-  pub cutting_small : total (runs table 0 q) < 2 ^ 48 → (c.front < 2 ^ 48) × (c.gap < 2 ^ 48) × (c.back < 2 ^ 48)
-  cutting_small s =
-      let k : c.front + c.gap + c.back < 2 ^ 48 = omega (arith, cut_to_whole t, at_total table 0 q i (omega arith) (omega arith)) in
-      (omega arith, omega arith, omega arith)
-
-  pub cutting_room : count + (min 1 c.front + min 1 c.gap + min 1 c.back) ≤ room
-  cutting_room = omega (arith, w.few, cut_to_pieces t)
 
   pub cutting_step : {pieces1 pieces2 pieces3 : List ℕ} {m1 m2 m3 : ℕ} → Put pieces count c.front d pieces1 m1
       → Put pieces1 m1 c.gap (d + 256) pieces2 m2 → Put pieces2 m2 c.back d pieces3 m3

@@ -2,12 +2,11 @@
 --
 --   Joined turns t table count i      of t turns, i were passed; the table holds their new owners in so many coalesced runs
 --
--- Joined: joined_none, joined_push (what `push` asks), joined_step, joined_end
+-- Joined: joined_push (what `push` asks), joined_step, joined_end
 use mathlib.Core.Path.{◌≡◌, refl, sym, ap, ◌∙◌}
 use mathlib.Core.List.{List, [], ◌++◌, append_assoc, append-nil}
 use Prim.Native.Nat.{ℕ, ◌+◌, ◌-◌, ◌/◌, ◌%◌, ◌^◌, ◌≤◌, ◌<◌, min}
 use native.Mathlib.Omega.{arith}
-use native.Mathlib.Nat.{sub-zero}
 use lib.Dec.{eqb}
 use lib.ListN.{length, replicate, length-append}
 use borrow.Author.Tests.{eqb-true, eq-eqb}
@@ -29,10 +28,6 @@ pub record Joined (turns : List ℕ) (t : ℕ) (table : List ℕ) (count i : ℕ
   pub size : length table ≡ room
   pub coalesced : Coalesced eqb (runs table 0 count)
   pub points : expand (runs table 0 count) ++ expand (owners_left turns t i) ≡ expand (relabel new (turns_of turns 0 t))
-
-pub joined_none : (turns : List ℕ) (t : ℕ) (table : List ℕ) → length table ≡ room → Joined turns t table 0 0
-joined_none turns t table h =
-    record { passed = omega arith; few = omega arith; size = h; coalesced = tt; points = rw sub-zero }
 
 module _ {turns : List ℕ} {t : ℕ} {table : List ℕ} {count i : ℕ} (j : Joined turns t table count i) where
   pub joined_end : t ≤ i → runs table 0 count ≡ coalesce eqb (relabel new (turns_of turns 0 t))

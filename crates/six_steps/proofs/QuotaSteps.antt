@@ -2,20 +2,19 @@
 --
 --   Quoted has due n release queue sum i      of n rows, i were passed; the arrays hold what these release and need
 --
--- Quoted: quoted_none, quoted_step, quoted_end
+-- Quoted: quoted_step, quoted_released, quoted_queue
 use mathlib.Core.Path.{◌≡◌, refl, ap, ◌∙◌}
 use mathlib.Core.List.{List}
 use Prim.Native.Nat.{ℕ, zero, suc, ◌+◌, ◌-◌, ◌*◌, ◌^◌, ◌≤◌, ◌<◌}
 use native.Mathlib.Omega.{arith}
-use native.Mathlib.Nat.{sub-zero}
 use lib.ListN.{length, set, length-set}
 use lib.Seq.{get_or-set_same, get_or-set_other}
 use borrow.Author.Count.{below_more}
 use Rattle.slicing.specs.Runs.{Run, owned}
 use Rattle.slicing.specs.SixSteps.{release as releaseOf, needs, reductions}
 use Rattle.slicing_core.specs.Rows.{at}
-use Rattle.packed_runs.specs.Words.{runs, by_row, Labelled}
-use Rattle.packed_runs.proofs.Words.{word_size, word_label, by_row_step, by_row_end, owned_by_row}
+use Rattle.packed_runs.specs.Words.{runs, by_row}
+use Rattle.packed_runs.proofs.Words.{word_size, word_label, by_row_step, owned_by_row}
 
 -- a queue that has the needs of the rows
 needs_rows : (queue due : List ℕ) (has : List (Run ℕ)) (i n : ℕ) → i + n ≤ 65536
@@ -37,17 +36,6 @@ pub record Quoted (has due : List ℕ) (n : ℕ) (release queue : List ℕ) (sum
   pub queued : (d : ℕ) → d < i → at queue d ≡ (at due d - at has d) * 65536 + d
   pub reduced : sum + reductions (by_row has i (n - i)) (by_row due 0 n) ≡ reductions (by_row has 0 n) (by_row due 0 n)
   pub small : sum ≤ i * 2 ^ 48
-
-pub quoted_none : (has due : List ℕ) (n : ℕ) (release queue : List ℕ) → length release ≡ 256 → length queue ≡ 256 → Quoted has due n release queue 0 0
-quoted_none has due n release queue a b = record {
-  release_size = a;
-  queue_size = b;
-  passed = omega arith;
-  released = λ d h. absurd (omega arith);
-  queued = λ d h. absurd (omega arith);
-  reduced = rw sub-zero (omega arith);
-  small = omega arith;
-}
 
 module _ {has due : List ℕ} {n : ℕ} {release queue : List ℕ} {sum i : ℕ} (w : Quoted has due n release queue sum i) where
   pub quoted_step : (over under : ℕ) → i < n → n ≤ 256 → at has i < 2 ^ 48 → over ≡ at has i - at due i → under ≡ at due i - at has i
@@ -72,16 +60,11 @@ module _ {has due : List ℕ} {n : ℕ} {release queue : List ℕ} {sum i : ℕ}
     small = omega (arith, w.small);
   }
 
-  pub quoted_end : n ≤ 256 → n ≤ i
-      → ((d : ℕ) → d < n → at release d ≡ releaseOf (by_row has 0 n) (by_row due 0 n) d)
-      × ((runs queue 0 n ≡ needs (by_row has 0 n) (by_row due 0 n))
-      × ((sum ≡ reductions (by_row has 0 n) (by_row due 0 n)) × (Labelled 256 queue n × (length release ≡ 256) × (length queue ≡ 256))))
-  quoted_end few h = (
-    (λ d l.
-        rw (owned_by_row has d 0 n (omega arith) (omega arith), owned_by_row due d 0 n (omega arith) (omega arith)) (w.released d (omega arith))),
-    (
+  pub quoted_released : n ≤ i → (d : ℕ) → d < n → at release d ≡ releaseOf (by_row has 0 n) (by_row due 0 n) d
+  quoted_released h d l =
+      rw (owned_by_row has d 0 n (omega arith) (omega arith), owned_by_row due d 0 n (omega arith) (omega arith)) (w.released d (omega arith))
+
+  pub quoted_queue : n ≤ 256 → n ≤ i → runs queue 0 n ≡ needs (by_row has 0 n) (by_row due 0 n)
+  quoted_queue few h =
       needs_rows queue due (by_row has 0 n) 0 n (omega arith)
-          (λ j a b. rw (owned_by_row has j 0 n (omega arith) (omega arith)) (w.queued j (omega arith))),
-      (omega (arith, w.reduced, ap (λ r. reductions r (by_row due 0 n)) (by_row_end has i n h)), ((λ d l. omega (arith, w.queued d (omega arith))), w.release_size, w.queue_size)),
-    ),
-  )
+      (λ j a b. rw (owned_by_row has j 0 n (omega arith) (omega arith)) (w.queued j (omega arith)))

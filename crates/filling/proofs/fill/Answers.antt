@@ -1,6 +1,6 @@
 -- `filling::fill` meets its contract. The loop's invariant: the turns written and the filling of what is left are all the turns.
 use native.Mathlib.Omega.{arith}
-use Rattle.filling.proofs.FillSteps.{filling_none, filling_push, filling_turn, filling_empty, filling_kept, filling_more, filling_whole, filling_part, filling_end}
+use Rattle.filling.proofs.FillSteps.{filling_none, filling_turn, filling_empty, filling_kept, filling_more, filling_whole, filling_part, filling_end}
 use Rattle.filling.proofs.fill.Goals as goal
 
 pub loop-i-init : goal.loop-i-init
@@ -9,10 +9,6 @@ loop-i-init c =
     let b = c.requires.p_bound in
     let l = c.requires.pieces_len in
     filling_none _ _ _ _ _ l.0 l.1 l.2 a.2 a.3 b.0 b.1
-
-pub push-count-requires : goal.push-count-requires
-push-count-requires c =
-    filling_push c.loop-i.invariant c.loop-i-test.true c.requires.n_bound.1 _ _ (omega arith) (omega arith)
 
 pub loop-i-preserved-then-piece-lt-TAKEN : goal.loop-i-preserved-then-piece-lt-TAKEN
 loop-i-preserved-then-piece-lt-TAKEN c =
@@ -48,6 +44,6 @@ loop-i-preserved c =
     filling_part c.loop-i.invariant c.loop-i-test.true c.if-piece-lt-TAKEN.false c.if-size-eq0.false c.requires.n_bound.0 c.if-need-size.false
     c.push-count-else-need-size.ensures
 
-pub returns : goal.returns
-returns c =
-    let w = c.loop-i.invariant in record { turns = filling_end w c.loop-i-test.false; few = (omega (arith, w.fits), w.size, w.piece_size) }
+pub returns-clause-turns : goal.returns-clause-turns
+returns-clause-turns c =
+    filling_end c.loop-i.invariant c.loop-i-test.false

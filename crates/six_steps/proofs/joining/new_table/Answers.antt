@@ -1,12 +1,8 @@
 -- `six_steps::joining::new_table` meets its contract. The loop's invariant: the runs stored and the turns that are left have the new owners
 -- of all points.
 use native.Mathlib.Omega.{arith}
-use Rattle.six_steps.proofs.JoinSteps.{joined_none, joined_push, joined_step, joined_end}
+use Rattle.six_steps.proofs.JoinSteps.{joined_push, joined_step, joined_end}
 use Rattle.six_steps.proofs.joining.new_table.Goals as goal
-
-pub loop-i-init : goal.loop-i-init
-loop-i-init c =
-    joined_none _ _ _ c.requires.2
 
 pub push-count-requires : goal.push-count-requires
 push-count-requires c =
@@ -16,6 +12,6 @@ pub loop-i-preserved : goal.loop-i-preserved
 loop-i-preserved c =
     joined_step c.loop-i.invariant c.loop-i-test.true c.push-count.ensures
 
-pub returns : goal.returns
-returns c =
-    let j = c.loop-i.invariant in record { table = joined_end j c.loop-i-test.false; few = (omega (arith, j.few, j.passed), j.size) }
+pub returns-clause-table : goal.returns-clause-table
+returns-clause-table c =
+    joined_end c.loop-i.invariant c.loop-i-test.false
