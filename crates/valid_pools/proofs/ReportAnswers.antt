@@ -3,18 +3,15 @@
 -- report_from: report_from_lem (of the device found, the rules' report), report_refused (of a device that is not found)
 use mathlib.Core.Path.{◌≡◌, refl, ap, ◌∙◌}
 use mathlib.Core.Bool.{Bool, true, false, cond}
-use Prim.Native.Nat.{ℕ, ◌*◌, ◌/◌, ◌%◌, ◌≤◌, ◌<◌}
-use lib.IntN.{pos, ◌-ℤ◌}
-use borrow.Author.Tests.{lt-ltb, le-ltb}
+use Prim.Native.Nat.{ℕ, ◌<◌}
+use borrow.Author.Tests.{lt-ltb}
 use Rattle.slicing.specs.Changes.{State}
 use Rattle.slicing.specs.Devices.{device, present, capacity_of}
 use Rattle.slicing.specs.Limits.{max_id, outside}
 use Rattle.slicing.specs.Reports.{report_of, no_report}
-use Rattle.pools.specs.declared.Pool.{Pool}
-use Rattle.valid_pools.specs.Finding.{not_found, numbers_of, FoundIn, FoundOf, found, invalid, report_from}
-use Rattle.valid_pools.specs.Promises.{report_as, report_answer, Reported}
+use Rattle.valid_pools.specs.Finding.{not_found, numbers_of, FoundIn, report_from}
+use Rattle.valid_pools.specs.Promises.{report_as, report_answer}
 use Rattle.valid_pools.specs.declared.finding.Found.{Found}
-use Rattle.valid_pools.specs.declared.ReportAnswer.{ReportAnswer}
 
 pub report_from_lem : {s : State} {id : ℕ} {f : Found} → FoundIn s id f → report_from f ≡ report_answer s id
 report_from_lem {s} {id} h = ap report_from h.same ∙ go (outside max_id id) (present id s.devices)

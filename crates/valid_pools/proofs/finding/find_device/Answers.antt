@@ -1,15 +1,10 @@
 -- `valid_pools::finding::find_device` meets its contract: each return by the answers that led there.
 use mathlib.Core.Path.{◌≡◌, sym, ◌∙◌}
-use mathlib.Core.Bool.{Bool, true, false, not}
-use mathlib.Core.List.{List}
-use Prim.Native.Nat.{ℕ, ◌<◌}
-use native.Mathlib.Omega.{arith}
-use borrow.Author.Tests.{not-true, not-false}
+use mathlib.Core.Bool.{true, false}
+use borrow.Author.Tests.{not-false}
 use Rattle.slicing.specs.Limits.{max_id, outside}
-use Rattle.opened.specs.OpenPools.{Open}
-use Rattle.opened.specs.declared.Opened.{Opened}
 use Rattle.opened.proofs.OpenPools.{open_few, open_rising, open_ascending}
-use Rattle.valid_pools.proofs.FoundDevices.{found_two, found_five, found_present}
+use Rattle.valid_pools.proofs.FoundDevices.{found_present}
 use Rattle.valid_pools.proofs.finding.find_device.Goals as goal
 
 pub find-place-requires : goal.find-place-requires

@@ -1,11 +1,9 @@
 -- `valid_pools::opening::open_cleared` meets its contract: each part of validity is decided by a call, and the arrays hold the pool's numbers.
-use mathlib.Core.Path.{◌≡◌}
 use Prim.Native.Nat.{ℕ}
 use native.Mathlib.Omega.{arith}
-use lib.ListN.{length, length-replicate}
+use lib.ListN.{length-replicate}
 use borrow.Author.Rules.{rules}
 use Rattle.pools.specs.Pools.{Formed}
-use Rattle.pools.specs.declared.Pool.{Pool}
 use Rattle.valid_pools.proofs.CheckedPools.{valid_formed, entered_opens, filled_opens, wide_ascending, wide_below}
 use Rattle.valid_pools.proofs.CheckedPools.{empty_valid, empty_opened, dealt_decides, dealt_opened}
 use Rattle.valid_pools.proofs.opening.open_cleared.Goals as goal

@@ -1,6 +1,5 @@
 -- `valid_pools::reporting::report` meets its contract.
 use Rattle.valid_pools.proofs.FoundDevices.{measured_of}
-use Rattle.valid_pools.proofs.ReportAnswers.{reported_of}
 use Rattle.valid_pools.proofs.reporting.report.Goals as goal
 
 pub report_of-requires : goal.report_of-requires
