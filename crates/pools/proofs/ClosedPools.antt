@@ -9,9 +9,7 @@ use mathlib.Core.List.{List, [], ◌∷◌}
 use Prim.Native.Nat.{ℕ, zero, suc, ◌+◌, ◌/◌, ◌%◌, ◌≤◌, ◌<◌}
 use native.Mathlib.Omega.{arith}
 use native.Mathlib.Nat.{add-zero, zero-add}
-use native.Mathlib.Numerals.{add-one}
-use lib.ListN.{length, set, take, length-take}
-use lib.Seq.{take-suc}
+use lib.ListN.{set, take}
 use Rattle.slicing.specs.Devices.{ids}
 use Rattle.slicing.specs.Runs.{Run, ◌of◌, total, relabel}
 use Rattle.slicing.proofs.Runs.{total_append, relabel_append}
