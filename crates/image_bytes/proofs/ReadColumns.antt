@@ -1,16 +1,17 @@
 -- Columns of the rows of an image: what the loop that reads rows and the calls of it need.
 --
 -- column: column_snoc (one row more), length_column, column_drop (without the first bytes), column_from (in a part of the bytes)
--- arrays: Filled (an array holds the numbers of the first rows, and is as it was behind), filled_none, filled_more, filled_all
+-- arrays: Filled (an array holds the numbers of the first rows, and is as it was behind), filled_more
 -- padded: column_padded (an array that held zeros)
 use mathlib.Core.Path.{◌≡◌, refl, sym, ap, ◌∙◌}
 use mathlib.Core.List.{List, [], ◌∷◌, ◌++◌}
 use Prim.Native.Nat.{ℕ, zero, suc, ◌+◌, ◌*◌, ◌-◌, ◌<◌}
 use native.Mathlib.Omega.{arith}
 use native.Mathlib.Nat.{add-zero, add_assoc}
-use native.Mathlib.Numerals.{add-one, unary_clauses}
+use native.Mathlib.Numerals.{add-one}
 use lib.ListN.{length, set, take, drop, replicate, length-drop, length-set}
 use lib.Seq.{take_all, drop-cons, set_at, append_snoc}
+use Rattle.std.proofs.lemmas.List.{drop-replicate}
 use Rattle.pools.specs.Pools.{padded}
 use Rattle.slicing_core.specs.Rows.{at}
 use Rattle.image_numbers.specs.Format.{number_at, column}
@@ -46,9 +47,6 @@ module _ (k p : ℕ) (rows before : List ℕ) where
     pub size : length ys ≡ length before
     pub parts : ys ≡ column rows k p n ++ drop n before
 
-  pub filled_none : Filled before 0
-  filled_none = record { size = refl; parts = refl }
-
   -- one row more
   pub filled_more : (ys : List ℕ) (n v : ℕ) → n < length before → Filled ys n → v ≡ number_at rows (6 * n + p) k → Filled (set ys n v) (n + 1)
   filled_more ys n v h f g =
@@ -62,17 +60,7 @@ module _ (k p : ℕ) (rows before : List ℕ) where
             (set_at (column rows k p n) (at before n) rest x n (length_column rows k p n) ∙ sym (append_snoc (column rows k p n) x rest));
       }
 
-  pub filled_all : (ys : List ℕ) (n m : ℕ) → n ≡ m → Filled ys n → ys ≡ column rows k p m ++ drop m before
-  filled_all ys n m e f = rw e at f.parts
-
-drop_zeros : (n N : ℕ) → drop {A = ℕ} n (replicate N 0) ≡ replicate (N - n) 0
-drop_zeros zero N = simp unary_clauses
-drop_zeros (suc n) zero =
-    let e : 0 - suc n ≡ 0 = omega arith in
-    rw e
-drop_zeros (suc n) (suc N) = simp unary_clauses (drop_zeros n N)
-
 -- an array that held zeros
 pub column_padded : (N k p : ℕ) (rows ys : List ℕ) (n : ℕ) → ys ≡ column rows k p n ++ drop n (replicate N 0) → ys ≡ padded N (column rows k p n)
 column_padded N k p rows ys n f =
-    f ∙ ap (λ zs. column rows k p n ++ zs) (drop_zeros n N ∙ ap (λ m. replicate (N - m) 0) (sym (length_column rows k p n)))
+    f ∙ ap (λ zs. column rows k p n ++ zs) (drop-replicate n N 0 ∙ ap (λ m. replicate (N - m) 0) (sym (length_column rows k p n)))

@@ -1,7 +1,7 @@
 -- Changes of an opened pool, and of the pool that an image describes: what they leave, from what the calls beneath them answered.
 --
 -- a change: change_room (the moves fit the list), change_opened, change_valid (the pool afterwards), change_refused, change_unfit, change_done
--- of an image: changed_short, changed_unread, changed_read
+-- of an image: changed_read
 use mathlib.Core.Path.{◌≡◌, refl, sym, ap, ◌∙◌}
 use mathlib.Core.Bool.{Bool, true, false, cond}
 use mathlib.Core.List.{List, ◌∷◌, ◌++◌, map}
@@ -41,13 +41,13 @@ use Rattle.flat_moves.proofs.FlatLists.{length_moves_in}
 module _ (i b b' : List ℕ) (n : ℕ) where
   fits : (u : Bool) → cond u (Write.Refused 17) (Write.Written (length i)) ≡ Write.Written n → b' ≡ cond u b (i ++ drop (length i) b)
       → (u ≡ false) × (n ≡ length i) × (b' ≡ i ++ drop (length i) b)
-  fits true w e = let z : ◌≡◌ {A = ℕ} 0 1 = cc in absurd (omega (arith, z))
+  fits true w e = absurd (cc)
   fits false w e = (refl, cc, e)
 
   unfit : (u : Bool) → cond u (Write.Refused 17) (Write.Written (length i)) ≡ Write.Refused n → b' ≡ cond u b (i ++ drop (length i) b)
       → (u ≡ true) × (b' ≡ b)
   unfit true w e = (refl, e)
-  unfit false w e = let z : ◌≡◌ {A = ℕ} 0 1 = cc in absurd (omega (arith, z))
+  unfit false w e = absurd (cc)
 
 -- ---- a change of an opened pool, from its plan
 
@@ -129,15 +129,7 @@ module _ {before : Opened} {table : List ℕ} (v : Open before table) (k : Chang
 
 -- ---- of an image
 
-module _ (xs : List ℕ) (k : Change) (b l a : List ℕ) where
-  pub changed_short : length a < 3 → Changed xs k b l a (record { number = 17; image = b; list = l; answer = a })
-  changed_short h = record { short = λ z. refl; room = λ z. absurd (omega (arith, h, z)) }
-
-  module _ {made : PoolAnswer} (m : ReadAs xs made) (h : 3 ≤ length a) where
-    pub changed_unread : {a' : List ℕ} → 0 < made.refusal → a' ≡ 0 ∷ 0 ∷ 0 ∷ drop 3 a
-        → Changed xs k b l a (record { number = made.refusal; image = b; list = l; answer = a' })
-    changed_unread z e = record { short = λ y. absurd (omega (arith, h, y)); room = λ y. on_image_refused xs _ _ _ made m z (rw e) }
-
-    pub changed_read : {r : Moved} {s : State} → made.refusal ≤ 0 → s ≡ state_of made.pool → r ≡ moved_as k b l a s → Changed xs k b l a r
-    changed_read {r} z f e =
-        record { short = λ y. absurd (omega (arith, h, y)); room = λ y. on_image_accepted xs _ _ r made m z (e ∙ ap (moved_as k b l a) f) }
+module _ (xs : List ℕ) (k : Change) (b l a : List ℕ) {made : PoolAnswer} (m : ReadAs xs made) (h : 3 ≤ length a) where
+  pub changed_read : {r : Moved} {s : State} → made.refusal ≤ 0 → s ≡ state_of made.pool → r ≡ moved_as k b l a s → Changed xs k b l a r
+  changed_read {r} z f e =
+      record { short = λ y. absurd (omega (arith, h, y)); room = λ y. on_image_accepted xs _ _ r made m z (e ∙ ap (moved_as k b l a) f) }

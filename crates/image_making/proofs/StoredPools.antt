@@ -1,8 +1,7 @@
 -- Calls that make a pool or a transcript: what they leave, from what the calls beneath them answered.
 --
--- answers: unanswered (no place for one), answered
 -- an image: stored_whole, stored_none (the buffer is too short)
--- a made pool: stored_from m (what is left of it), made_refused, made_accepted; made_valid, made_stored (from its number and its pool)
+-- a made pool: stored_from m (what is left of it), made_valid, made_stored (from its number and its pool)
 -- the calls: fresh_valid_pool, fresh_stored; replay_valid_pool, replay_stored
 -- a transcript: transcript_whole, transcript_none (the buffer is too short)
 use mathlib.Core.Path.{◌≡◌, refl, sym, ap, ◌∙◌, subst}
@@ -34,10 +33,7 @@ use Rattle.image_making.specs.Promises.{Stored, unstored, stored_as, answered_in
 
 -- ---- answers
 
-pub unanswered : (k : ℕ) (b a : List ℕ) (r : Stored) → length a < k → record { number = 17; image = b; answer = a } ≡ answered_in k b a r
-unanswered k b a r h = rw (lt-ltb (length a) k h)
-
-pub answered : (k : ℕ) (b a : List ℕ) (r s : Stored) → k ≤ length a → r ≡ s → r ≡ answered_in k b a s
+answered : (k : ℕ) (b a : List ℕ) (r s : Stored) → k ≤ length a → r ≡ s → r ≡ answered_in k b a s
 answered k b a r s h e = rw (le-ltb (length a) k h) e
 
 -- what is left of the bytes i; t tells whether the buffer is too short
@@ -49,13 +45,13 @@ left t i b a = cond t (unstored 17 b a) (record { number = 0; image = i ++ drop 
 module _ (i b b' a a' : List ℕ) (n : ℕ) where
   written_size : (t : Bool) → cond t (Write.Refused 17) (Write.Written (length i)) ≡ Write.Written n → b' ≡ cond t b (i ++ drop (length i) b)
       → a' ≡ n ∷ drop 1 a → record { number = 0; image = b'; answer = a' } ≡ left t i b a
-  written_size true w e h = let z : ◌≡◌ {A = ℕ} 0 1 = cc in absurd (omega (arith, z))
+  written_size true w e h = cc
   written_size false w e h = cc
 
   written_number : (t : Bool) → cond t (Write.Refused 17) (Write.Written (length i)) ≡ Write.Refused n → b' ≡ cond t b (i ++ drop (length i) b)
       → a' ≡ 0 ∷ drop 1 a → record { number = n; image = b'; answer = a' } ≡ left t i b a
   written_number true w e h = cc
-  written_number false w e h = let z : ◌≡◌ {A = ℕ} 0 1 = cc in absurd (omega (arith, z))
+  written_number false w e h = cc
 
 module _ (s : State) (b b' a a' : List ℕ) (w : WriteAnswer) (n : ℕ) (h : w ≡ write_answer s (length b)) (f : b' ≡ buffer_after s b) where
   pub stored_whole : w ≡ Write.Written n → a' ≡ n ∷ drop 1 a → record { number = 0; image = b'; answer = a' } ≡ stored_as s b a
@@ -72,13 +68,6 @@ module _ (s : State) (b b' a a' : List ℕ) (w : WriteAnswer) (n : ℕ) (h : w �
 
 abbrev pub stored_from : PoolAnswer → List ℕ → List ℕ → Stored
 stored_from m b a = cond (ltb 0 m.refusal) (unstored m.refusal b a) (stored_as (state_of m.pool) b a)
-
-pub made_refused : (m : PoolAnswer) (b a a' : List ℕ) → 0 < m.refusal → a' ≡ 0 ∷ drop 1 a
-    → record { number = m.refusal; image = b; answer = a' } ≡ stored_from m b a
-made_refused m b a a' h e = rw (lt-ltb 0 m.refusal h, e)
-
-pub made_accepted : (m : PoolAnswer) (b a : List ℕ) (r : Stored) → m.refusal ≤ 0 → r ≡ stored_as (state_of m.pool) b a → r ≡ stored_from m b a
-made_accepted m b a r h e = rw (le-ltb 0 m.refusal h) e
 
 -- t tells whether the call is refused with 2; s is the state that it makes
 module _ (s : State) (m : PoolAnswer) where
@@ -131,13 +120,13 @@ module _ (xs : List ℕ) (m : PoolAnswer) (f : m ≡ replayed (ltb max_text (len
 module _ (i b b' a a' : List ℕ) (n : ℕ) where
   printed_size : (t : Bool) → cond t (Answer.Refused 17) (Answer.Printed (length i)) ≡ Answer.Printed n → b' ≡ cond t b (i ++ drop (length i) b)
       → a' ≡ n ∷ drop 1 a → record { number = 0; image = b'; answer = a' } ≡ left t i b a
-  printed_size true w e h = let z : ◌≡◌ {A = ℕ} 0 1 = cc in absurd (omega (arith, z))
+  printed_size true w e h = cc
   printed_size false w e h = cc
 
   printed_number : (t : Bool) → cond t (Answer.Refused 17) (Answer.Printed (length i)) ≡ Answer.Refused n → b' ≡ cond t b (i ++ drop (length i) b)
       → a' ≡ 0 ∷ drop 1 a → record { number = n; image = b'; answer = a' } ≡ left t i b a
   printed_number true w e h = cc
-  printed_number false w e h = let z : ◌≡◌ {A = ℕ} 0 1 = cc in absurd (omega (arith, z))
+  printed_number false w e h = cc
 
 module _ (xs b b' a a' : List ℕ) (w : TranscriptAnswer) (n : ℕ) (h : Transcribed xs b w b') (l : 1 ≤ length a) where
   pub transcript_whole : w ≡ Answer.Printed n → a' ≡ n ∷ drop 1 a → Transcript xs b a (record { number = 0; image = b'; answer = a' })

@@ -1,9 +1,9 @@
 -- The calls that tell of the pool of an image: what they leave, from what the calls beneath them answered.
 --
--- numbers: numbered_short (too few places), numbered_refused (a refused image), numbered_told
--- rows: listed_refused, listed_short, listed_told; length_device_numbers, length_interval_numbers (of an opened pool)
--- one device: found_refused, found_told; measured_on
--- a share: shared_short, shared_found (from the device found); a report: reported_short, reported_found
+-- numbers: numbered_told
+-- rows: listed_short, listed_told; length_device_numbers, length_interval_numbers (of an opened pool)
+-- one device: found_told, measured_on
+-- a share: shared_found (from the device found); a report: reported_found
 use mathlib.Core.Path.{◌≡◌, refl, sym, ap, ◌∙◌, subst}
 use mathlib.Core.Bool.{Bool, true, false, cond}
 use mathlib.Core.List.{List, ◌∷◌, ◌++◌}
@@ -47,37 +47,27 @@ numbers_state : (p : Pool) (a : List ℕ)
 unfolding state_of
 numbers_state p a = rw (length_device_rows p.ids p.capacities 0 p.devices, length_table_rows p.starts p.owners p.range 0 p.intervals)
 
-module _ (xs a : List ℕ) where
-  pub numbered_short : length a < 4 → Numbered xs a (record { number = 17; places = a })
-  numbered_short h = record { short = λ k. refl; room = λ k. absurd (omega (arith, h, k)) }
-
-  module _ (made : PoolAnswer) (i : ReadAs xs made) (l : 4 ≤ length a) (a' : List ℕ) where
-    pub numbered_refused : 0 < made.refusal → a' ≡ 0 ∷ 0 ∷ 0 ∷ 0 ∷ drop 4 a → Numbered xs a (record { number = made.refusal; places = a' })
-    numbered_refused z e = record { short = λ k. absurd (omega (arith, l, k)); room = λ k. on_image_refused xs _ _ _ made i z (rw e) }
-
-    pub numbered_told : made.refusal ≤ 0
-        → a' ≡ made.pool.range ∷ made.pool.limit ∷ made.pool.devices ∷ made.pool.intervals ∷ drop 4 a
-        → Numbered xs a (record { number = 0; places = a' })
-    numbered_told z e = record {
-      short = λ k. absurd (omega (arith, l, k));
-      room = λ k. on_image_accepted xs _ _ _ made i z (ap (λ ys. record { number = 0; places = ys }) (e ∙ numbers_state made.pool a));
-    }
+module _ (xs a : List ℕ) (made : PoolAnswer) (i : ReadAs xs made) (l : 4 ≤ length a) (a' : List ℕ) where
+  pub numbered_told : made.refusal ≤ 0
+      → a' ≡ made.pool.range ∷ made.pool.limit ∷ made.pool.devices ∷ made.pool.intervals ∷ drop 4 a
+      → Numbered xs a (record { number = 0; places = a' })
+  numbered_told z e = record {
+    short = λ k. absurd (omega (arith, l, k));
+    room = λ k. on_image_accepted xs _ _ _ made i z (ap (λ ys. record { number = 0; places = ys }) (e ∙ numbers_state made.pool a));
+  }
 
 -- ---- rows
 
-module _ (f : State → List ℕ) (xs a : List ℕ) (made : PoolAnswer) (i : ReadAs xs made) where
-  pub listed_refused : 0 < made.refusal → Listed f xs a (record { number = made.refusal; places = a })
-  listed_refused z = on_image_refused xs _ _ _ made i z refl
-
-  -- n rows of an opened pool with the state s
-  module _ (z : made.refusal ≤ 0) (s : State) (e : s ≡ state_of made.pool) (n : ℕ) (l : length (f s) ≡ 3 * n) where
+-- n rows of an opened pool with the state s
+module _ (f : State → List ℕ) {xs : List ℕ} (a : List ℕ) {made : PoolAnswer} (i : ReadAs xs made) (z : made.refusal ≤ 0) where
+  module _ {s : State} (e : s ≡ state_of made.pool) {n : ℕ} (l : length (f s) ≡ 3 * n) where
     pub listed_short : length a / 3 < n → Listed f xs a (record { number = 17; places = a })
     listed_short h =
         on_image_accepted xs _ _ _ made i z
         (subst (λ (u : State). record { number = 17; places = a } ≡ listed_as (f u) a) e (rw (lt-ltb (length a) (length (f s)) (omega (arith, h, l)))))
 
-    pub listed_told : (a' : List ℕ) → n ≤ length a / 3 → a' ≡ f s ++ drop (3 * n) a → Listed f xs a (record { number = 0; places = a' })
-    listed_told a' h k =
+    pub listed_told : {a' : List ℕ} → n ≤ length a / 3 → a' ≡ f s ++ drop (3 * n) a → Listed f xs a (record { number = 0; places = a' })
+    listed_told {a'} h k =
         on_image_accepted xs _ _ _ made i z
         (subst (λ (u : State). record { number = 0; places = a' } ≡ listed_as (f u) a) e
         (rw (le-ltb (length a) (length (f s)) (omega (arith, h, l)), l, k)))
@@ -93,9 +83,6 @@ module _ {o : Opened} {table : List ℕ} (h : Open o table) where
 -- ---- one device
 
 module _ (xs : List ℕ) (d : ℕ) (made : PoolAnswer) (i : ReadAs xs made) (f : Found) where
-  pub found_refused : 0 < made.refusal → f ≡ not_found made.refusal → FoundOn xs d f
-  found_refused z e = on_image_refused xs _ _ _ made i z e
-
   -- of an opened pool with the state s
   pub found_told : made.refusal ≤ 0 → (s : State) → s ≡ state_of made.pool → FoundIn s d f → FoundOn xs d f
   found_told z s e h = on_image_accepted xs _ _ _ made i z (h.same ∙ ap (λ (u : State). found_of u d) e)
@@ -109,9 +96,6 @@ measured_on xs d f (accepted i e) = measured_in {id = d} i.sound.valid (record {
 -- ---- a share
 
 module _ (xs : List ℕ) (d : ℕ) (a : List ℕ) where
-  pub shared_short : length a < 1 → Shared xs d a (record { number = 17; places = a })
-  shared_short h = record { short = λ k. refl; room = λ k. absurd (omega (arith, h, k)) }
-
   -- the number and the points of the device found
   abbrev share_left : Found → Answer
   share_left f = record { number = f.refusal; places = f.points ∷ drop 1 a }
@@ -136,9 +120,6 @@ module _ (xs : List ℕ) (d : ℕ) (a : List ℕ) where
 -- ---- a report
 
 module _ (xs : List ℕ) (d : ℕ) (a : List ℕ) (x : ℤ) where
-  pub reported_short : length a < 2 → Reported xs d a x (record { number = 17; places = a; difference = x })
-  reported_short h = record { short = λ k. refl; room = λ k. absurd (omega (arith, h, k)) }
-
   abbrev report_left : ReportAnswer → ReportLeft
   report_left w = record { number = w.refusal; places = w.whole ∷ w.remainder ∷ drop 2 a; difference = w.difference }
 

@@ -2,7 +2,7 @@
 --
 -- write_reply: write_reply_answer
 -- the answer and the buffer: stored_short, stored_whole
--- WrittenAs: written_answer (what the answer is says what its reply is), written_valid, written_invalid
+-- WrittenAs: written_answer (what the answer is says what its reply is), written_valid
 use mathlib.Core.Path.{◌≡◌, refl, ap, ◌∙◌}
 use mathlib.Core.Bool.{Bool, true, false, cond}
 use mathlib.Core.List.{List, ◌++◌}
@@ -61,6 +61,3 @@ module _ (p : Pool) (v : ValidPool p) where
 
   pub written_valid : (before : List ℕ) (r : WriteAnswer) (after : List ℕ) → Stored before r after → WrittenAs p before r after
   written_valid before r after h = written_answer p before r after (λ k. h) (λ k. absurd (k v))
-
-pub written_invalid : (p : Pool) → (ValidPool p → ⊥) → (before : List ℕ) → WrittenAs p before (Refused 2) before
-written_invalid p h before = written_answer p before (Refused 2) before (λ k. absurd (h k)) (λ k. (refl, refl))

@@ -1,12 +1,8 @@
 -- `image_making::fresh` meets its contract.
 use native.Mathlib.Omega.{arith}
 use Rattle.std.proofs.lemmas.Bool.Decides.{nat_tests}
-use Rattle.image_making.proofs.StoredPools.{unanswered, fresh_valid_pool, fresh_stored}
+use Rattle.image_making.proofs.StoredPools.{fresh_valid_pool, fresh_stored}
 use Rattle.image_making.proofs.fresh.Goals as goal
-
-pub returns-then-is_empty : goal.returns-then-is_empty
-returns-then-is_empty c =
-    unanswered 1 c.args.image.now c.args.answer.now _ (grind (arith, nat_tests))
 
 pub store_made-requires : goal.store_made-requires
 store_made-requires c =

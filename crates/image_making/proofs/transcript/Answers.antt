@@ -1,12 +1,8 @@
 -- `image_making::transcript` meets its contract.
 use native.Mathlib.Omega.{arith}
 use Rattle.std.proofs.lemmas.Bool.Decides.{nat_tests}
-use Rattle.image_making.proofs.StoredPools.{unanswered, transcript_whole, transcript_none}
+use Rattle.image_making.proofs.StoredPools.{transcript_whole, transcript_none}
 use Rattle.image_making.proofs.transcript.Goals as goal
-
-pub returns-then-is_empty : goal.returns-then-is_empty
-returns-then-is_empty c =
-    unanswered 1 c.args.out.now c.args.answer.now _ (grind (arith, nat_tests))
 
 pub returns-in-Printed : goal.returns-in-Printed
 returns-in-Printed c =

@@ -1,10 +1,6 @@
 -- `image_bytes::rows::put_columns` meets its contract. The loop's invariant: the first i rows are written, and the rest is as it was.
-use mathlib.Core.Path.{◌≡◌, refl, subst}
-use mathlib.Core.List.{◌++◌}
-use Prim.Native.Nat.{ℕ, ◌*◌}
+use mathlib.Core.Path.{refl}
 use native.Mathlib.Omega.{arith}
-use lib.ListN.{drop}
-use Rattle.image_bytes.specs.RowBytes.{rows_bytes}
 use Rattle.image_bytes.proofs.RowFronts.{rows_bytes_none, rows_bytes_put}
 use Rattle.image_bytes.proofs.rows.put_columns.Goals as goal
 

@@ -1,13 +1,8 @@
 -- `image_bytes::rows::read_columns` meets its contract. The loop's invariant: both arrays hold the numbers of the first i rows, and are as they were behind.
 use native.Mathlib.Omega.{arith}
 use Rattle.image_bytes.specs.RowBytes.{short_place, long_place}
-use Rattle.image_bytes.proofs.ReadColumns.{filled_none, filled_more}
+use Rattle.image_bytes.proofs.ReadColumns.{filled_more}
 use Rattle.image_bytes.proofs.rows.read_columns.Goals as goal
-
-pub loop-i-init : goal.loop-i-init
-loop-i-init c =
-    let a = c.args in
-    (filled_none 2 (short_place a.row) a.rows.now a.shorts.now, filled_none 4 (long_place a.row) a.rows.now a.longs.now)
 
 pub loop-i-preserved : goal.loop-i-preserved
 loop-i-preserved c =

@@ -1,13 +1,8 @@
 -- `image_rows::finding::find_on` meets its contract.
 use native.Mathlib.Omega.{arith}
 use Rattle.images.specs.Promises.{answer_of}
-use Rattle.image_rows.proofs.ToldPools.{found_refused, found_told}
+use Rattle.image_rows.proofs.ToldPools.{found_told}
 use Rattle.image_rows.proofs.finding.find_on.Goals as goal
-
-pub returns-then-made-gt0 : goal.returns-then-made-gt0
-returns-then-made-gt0 c =
-    let a = c.args in
-    found_refused a.image.now a.id (answer_of c.read_open-made.result) c.read_open-made.ensures.read _ c.if-made-gt0.true c.not_found.ensures
 
 pub returns : goal.returns
 returns c =

@@ -3,13 +3,8 @@ use borrow.Author.Rules.{rules}
 use mir.Syntax.{w64}
 use mir.Val.{SFits}
 use mir.ValLaws.{to_z-of_z}
-use Rattle.image_rows.proofs.ToldPools.{measured_on, reported_short, reported_found}
+use Rattle.image_rows.proofs.ToldPools.{measured_on, reported_found}
 use Rattle.image_rows.proofs.numbering.report.Goals as goal
-
-pub returns-then-answer-lt2 : goal.returns-then-answer-lt2
-returns-then-answer-lt2 c =
-    let a = c.args in
-    reported_short a.image.now a.id a.answer.now a.difference.now c.if-answer-lt2.true
 
 pub report_of-told-requires : goal.report_of-told-requires
 report_of-told-requires c =

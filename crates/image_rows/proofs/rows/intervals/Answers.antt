@@ -1,20 +1,16 @@
 -- `image_rows::rows::intervals` meets its contract.
 use native.Mathlib.Omega.{arith}
-use Rattle.images.specs.Promises.{answer_of}
 use Rattle.image_rows.specs.Promises.{interval_numbers}
 use Rattle.image_rows.proofs.ToldPools.{listed_short, listed_told, length_interval_numbers}
 use Rattle.image_rows.proofs.rows.intervals.Goals as goal
 
 pub returns-then-rows-made : goal.returns-then-rows-made
 returns-then-rows-made c =
-    let a = c.args in
     let h = c.read_open-made.ensures.opened (omega arith) in
-    listed_short interval_numbers a.image.now a.rows.now (answer_of c.read_open-made.result) c.read_open-made.ensures.read c.if-made-gt0.false
-    _ h.1 _ (length_interval_numbers h.0) c.if-rows-made.true
+    listed_short interval_numbers c.args.rows.now c.read_open-made.ensures.read c.if-made-gt0.false h.1 (length_interval_numbers h.0) c.if-rows-made.true
 
 pub returns : goal.returns
 returns c =
-    let a = c.args in
     let h = c.read_open-made.ensures.opened (omega arith) in
-    listed_told interval_numbers a.image.now a.rows.now (answer_of c.read_open-made.result) c.read_open-made.ensures.read c.if-made-gt0.false
-    _ h.1 _ (length_interval_numbers h.0) _ c.if-rows-made.false c.put_intervals.ensures
+    listed_told interval_numbers c.args.rows.now c.read_open-made.ensures.read c.if-made-gt0.false h.1 (length_interval_numbers h.0) c.if-rows-made.false
+    c.put_intervals.ensures

@@ -14,12 +14,12 @@ pub returns-then-n-gt-MAX_DEVICES-clause-read : goal.returns-then-n-gt-MAX_DEVIC
 returns-then-n-gt-MAX_DEVICES-clause-read c =
     faulty (cc) (cc)
     (λ s.
-        let k = counts _ s in
-        elim c.then-n-gt-MAX_DEVICES.branch [
-          then-n-gt-MAX_DEVICES-via-then-n-gt-MAX_DEVICES w ↦ omega arith
-          | then-n-gt-MAX_DEVICES-via-else-n-gt-MAX_DEVICES+then-q-gt-MAX_INTERVALS w ↦ omega arith
-          | then-n-gt-MAX_DEVICES-via-else-n-gt-MAX_DEVICES+else-q-gt-MAX_INTERVALS+then-image-n w ↦ omega arith
-        ])
+    let k = counts _ s in
+    elim c.then-n-gt-MAX_DEVICES.branch [
+      | then-n-gt-MAX_DEVICES-via-then-n-gt-MAX_DEVICES w ↦ omega arith
+      | then-n-gt-MAX_DEVICES-via-else-n-gt-MAX_DEVICES+then-q-gt-MAX_INTERVALS w ↦ omega arith
+      | then-n-gt-MAX_DEVICES-via-else-n-gt-MAX_DEVICES+else-q-gt-MAX_INTERVALS+then-image-n w ↦ omega arith
+    ])
     c.refused-then-n-gt-MAX_DEVICES.ensures
 
 pub open_cleared-checked-requires : goal.open_cleared-checked-requires
