@@ -4,7 +4,7 @@
 
 use std::io;
 use std::io::{BufWriter, Write};
-use test_text::{first, wide32};
+use test_text::first;
 
 // Byte j is j modulo 251, so that no two blocks are alike.
 fn fill(out: &mut [u8]) {
@@ -16,7 +16,7 @@ fn fill(out: &mut [u8]) {
 fn print_answer<W: Write>(out: &mut W, message: &[u8]) -> io::Result<()> {
     let answer = sha1_digest::digest(message);
     let words = answer.words;
-    first(out, wide32(answer.refusal))?;
+    first(out, answer.refusal)?;
     test_text::space(out)?;
     test_text::hexadecimal(out, &words)?;
     test_text::end_line(out)
