@@ -8,7 +8,6 @@ use Rattle.std.specs.Prelude.{◌≡◌, Bool, List, ℕ}
 use Rattle.opened.specs.OpenPools.{state_in, Open}
 use Rattle.opened.specs.declared.Opened.{Opened}
 use Rattle.calls.specs.declared.Call.{Call}
-use Rattle.calls.specs.declared.Call.TheVariants as Call
 use Rattle.history_lines.specs.declared.lines.LineAnswer.{LineAnswer}
 use Rattle.history_lines.specs.declared.lines.LineAnswer.TheVariants.{Add, Remove, Resize}
 use Rattle.history_steps.specs.Steps.{Reading, applied}
