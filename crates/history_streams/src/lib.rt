@@ -43,9 +43,9 @@ fn put_transcript(text: &[u8], out: &mut [u8; ROOM]) -> usize
     ensures count { IsPrefixLen result out.new }
     ensures text { take result out.new ≡ transcript text.now }
 {
-    match history::transcript(text, &mut *out) {
-        TranscriptAnswer::Printed(n) => { n }
-        TranscriptAnswer::Refused(refusal) => { 0 }
+    match history::transcript(text, out) {
+        TranscriptAnswer::Printed(n) => n,
+        TranscriptAnswer::Refused(_) => 0,
     }
 }
 

@@ -25,6 +25,7 @@ pub fn read_to_end<R: Read>(input: &mut R, buf: &mut [u8]) -> Input
     ensures { Within result buf.new }
 {
     let mut done = 0;
+    // A while: each read says how many more bytes came.
     while done < buf.len() {
         match read_some(input, &mut buf[done..]) {
             Ok(0) => return Input::Read(done),
@@ -39,6 +40,7 @@ pub fn read_to_end<R: Read>(input: &mut R, buf: &mut [u8]) -> Input
 // written. Of an empty buf nothing is written.
 pub fn write_all<W: Write>(output: &mut W, buf: &[u8]) -> io::Result<()> {
     let mut done = 0;
+    // A while: each write says how many more bytes went.
     while done < buf.len() {
         let put = write_some(output, &buf[done..])?;
         if put == 0 {
@@ -61,7 +63,7 @@ fn read_some<R: Read>(input: &mut R, buf: &mut [u8]) -> io::Result<usize>
     ensures { ReadsAtMost result buf.new }
 {
     for _ in 0..INTERRUPTIONS {
-        let got = input.read(&mut *buf);
+        let got = input.read(buf);
         if !interrupted(&got) {
             return got;
         }

@@ -6,7 +6,7 @@ use placement::{ChangeAnswer, Move};
 use pools::Pool;
 use std::io;
 use std::io::Write;
-use test_text::{end_line, first, least, space, spaced, wide32};
+use test_text::{end_line, first, least, space, spaced};
 
 // The most places that are lent.
 const PLACES: usize = 8448;
@@ -99,7 +99,7 @@ fn unchanged(list: &[Move], from: usize, to: usize) -> usize {
 
 // The first three numbers of an answer.
 fn print_numbers<W: Write>(out: &mut W, answer: ChangeAnswer) -> io::Result<()> {
-    first(out, wide32(answer.refusal))?;
+    first(out, answer.refusal)?;
     spaced(out, answer.moved)?;
     spaced(out, answer.count as u64)
 }

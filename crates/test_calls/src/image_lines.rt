@@ -4,7 +4,7 @@ use crate::{pool_images, printing, spelling};
 use pools::{Pool, PoolAnswer};
 use std::io;
 use std::io::Write;
-use test_text::{end_line, first, space, wide32, within};
+use test_text::{end_line, first, space, within};
 
 fn write_into<W: Write>(out: &mut W, pool: Pool, buffer: &mut [u8]) -> io::Result<()> {
     printing::written(out, images::write(pool, &mut *buffer))?;
@@ -28,7 +28,7 @@ pub fn write<W: Write>(out: &mut W, pool: Pool, line: &[u8]) -> io::Result<bool>
 fn print_read<W: Write>(out: &mut W, answer: PoolAnswer) -> io::Result<()> {
     let pool = answer.pool;
     space(out)?;
-    first(out, wide32(answer.refusal))?;
+    first(out, answer.refusal)?;
     space(out)?;
     pool_images::print_digest(out, pool)?;
     end_line(out)

@@ -4,7 +4,7 @@ use crate::{Outcome, pool_rows, printing};
 use pools::Pool;
 use std::io;
 use std::io::Write;
-use test_text::{end_line, first, narrow32, spaced, wide32};
+use test_text::{end_line, first, narrow32, spaced};
 
 pub fn fresh<W: Write>(out: &mut W, kept: Pool, line: &[u8]) -> io::Result<Outcome> {
     let Parsed::Number(range) = number(word(line, 1)) else {
@@ -76,7 +76,7 @@ pub fn show<W: Write>(out: &mut W, kept: Pool) -> io::Result<Outcome> {
     let starts = kept.starts;
     let owners = kept.owners;
     first(out, kept.range)?;
-    spaced(out, wide32(kept.limit))?;
+    spaced(out, kept.limit)?;
     spaced(out, kept.devices as u64)?;
     spaced(out, kept.intervals as u64)?;
     pool_rows::print(out, &ids, &capacities, true)?;

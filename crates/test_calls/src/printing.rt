@@ -7,12 +7,12 @@ use pools::PoolAnswer;
 use sha1_digest::DigestAnswer;
 use std::io;
 use std::io::Write;
-use test_text::{end_line, first, pair, space, spaced, spaced_signed, wide32};
+use test_text::{end_line, first, pair, space, spaced};
 use valid_pools::{ReportAnswer, ShareAnswer};
 
 pub fn digest<W: Write>(out: &mut W, answer: DigestAnswer) -> io::Result<()> {
     let list = answer.words;
-    first(out, wide32(answer.refusal))?;
+    first(out, answer.refusal)?;
     space(out)?;
     test_text::hexadecimal(out, &list)?;
     end_line(out)
@@ -21,53 +21,53 @@ pub fn digest<W: Write>(out: &mut W, answer: DigestAnswer) -> io::Result<()> {
 pub fn capacity<W: Write>(out: &mut W, answer: CapacityAnswer) -> io::Result<()> {
     match answer {
         CapacityAnswer::Thousandths(value) => pair(out, 0, value),
-        CapacityAnswer::Refused(refusal) => pair(out, wide32(refusal), 0),
+        CapacityAnswer::Refused(refusal) => pair(out, refusal, 0),
     }
 }
 
 pub fn point<W: Write>(out: &mut W, answer: PointAnswer) -> io::Result<()> {
     match answer {
         PointAnswer::Point(point) => pair(out, 0, point),
-        PointAnswer::Refused(refusal) => pair(out, wide32(refusal), 0),
+        PointAnswer::Refused(refusal) => pair(out, refusal, 0),
     }
 }
 
 pub fn owner<W: Write>(out: &mut W, answer: OwnerAnswer) -> io::Result<()> {
     match answer {
         OwnerAnswer::Owner(owner) => pair(out, 0, owner),
-        OwnerAnswer::Refused(refusal) => pair(out, wide32(refusal), 0),
+        OwnerAnswer::Refused(refusal) => pair(out, refusal, 0),
     }
 }
 
 pub fn share<W: Write>(out: &mut W, answer: ShareAnswer) -> io::Result<()> {
     match answer {
         ShareAnswer::Share(points) => pair(out, 0, points),
-        ShareAnswer::Refused(refusal) => pair(out, wide32(refusal), 0),
+        ShareAnswer::Refused(refusal) => pair(out, refusal, 0),
     }
 }
 
 pub fn report<W: Write>(out: &mut W, answer: ReportAnswer) -> io::Result<()> {
-    first(out, wide32(answer.refusal))?;
+    first(out, answer.refusal)?;
     spaced(out, answer.whole)?;
     spaced(out, answer.remainder)?;
-    spaced_signed(out, answer.difference)?;
+    spaced(out, answer.difference)?;
     end_line(out)
 }
 
 pub fn copies<W: Write>(out: &mut W, answer: CopiesAnswer) -> io::Result<()> {
     let list = answer.owners;
     let counters = answer.counters;
-    first(out, wide32(answer.refusal))?;
-    test_text::spaced_eight(out, &list)?;
-    spaced(out, wide32(answer.probes))?;
-    spaced(out, wide32(counters.lookups))?;
-    spaced(out, wide32(counters.probes))?;
+    first(out, answer.refusal)?;
+    test_text::spaced_list(out, &list)?;
+    spaced(out, answer.probes)?;
+    spaced(out, counters.lookups)?;
+    spaced(out, counters.probes)?;
     end_line(out)
 }
 
 pub fn made<W: Write>(out: &mut W, answer: PoolAnswer) -> io::Result<()> {
     let pool = answer.pool;
-    first(out, wide32(answer.refusal))?;
+    first(out, answer.refusal)?;
     space(out)?;
     pool_images::print(out, pool)?;
     end_line(out)
@@ -85,7 +85,7 @@ pub fn written<W: Write>(out: &mut W, answer: WriteAnswer) -> io::Result<usize> 
             number = refusal;
         }
     }
-    first(out, wide32(number))?;
+    first(out, number)?;
     spaced(out, size as u64)?;
     space(out)?;
     Ok(size)

@@ -4,7 +4,7 @@ ghost use Rattle.std.specs.Prelude.{◌<◌, length};
 use crate::pool_images::is_image;
 use std::io;
 use std::io::Write;
-use test_text::{end_line, first, spaced, wide32};
+use test_text::{end_line, first, spaced};
 
 // How many changed bytes were read and written back, refused with 14, 15, 16, and answered otherwise.
 #[derive(Clone, Copy)]
@@ -42,7 +42,7 @@ fn judged(bytes: &[u8], place: usize) -> u64 {
     if answer.refusal != due {
         return 1;
     }
-    wide32(due)
+    u64::from(due)
 }
 
 fn counted(tally: Tally, answer: u64) -> Tally {

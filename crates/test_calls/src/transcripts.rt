@@ -3,7 +3,7 @@ use crate::spelling;
 use history::TranscriptAnswer;
 use std::io;
 use std::io::Write;
-use test_text::{end_line, first, pair, space, spaced, wide32, within};
+use test_text::{end_line, first, pair, space, spaced, within};
 
 fn run<W: Write>(out: &mut W, text: &[u8], room: &mut [u8]) -> io::Result<()> {
     match history::transcript(text, &mut *room) {
@@ -15,7 +15,7 @@ fn run<W: Write>(out: &mut W, text: &[u8], room: &mut [u8]) -> io::Result<()> {
             spelling::digest(out, &room[..n])?;
             end_line(out)
         }
-        TranscriptAnswer::Refused(refusal) => pair(out, wide32(refusal), 0),
+        TranscriptAnswer::Refused(refusal) => pair(out, refusal, 0),
     }
 }
 

@@ -39,7 +39,7 @@ fn read(mut file: File, bytes: &mut [u8]) -> Input
 
 // Whether the transcript of a text is what is expected.
 fn agrees(text: &[u8], out: &mut [u8], expected: &[u8]) -> bool {
-    match history::transcript(text, &mut *out) {
+    match history::transcript(text, out) {
         TranscriptAnswer::Printed(n) => n <= out.len() && &out[..n] == expected,
         TranscriptAnswer::Refused(_) => false,
     }
@@ -56,13 +56,13 @@ fn compare(
     let Ok(text_file) = open(rt, name, ".in") else {
         return Verdict::Missing;
     };
-    let Input::Read(size) = read(text_file, &mut *text) else {
+    let Input::Read(size) = read(text_file, text) else {
         return Verdict::Missing;
     };
     let Ok(expected_file) = open(rt, name, ".out") else {
         return Verdict::Missing;
     };
-    let Input::Read(due) = read(expected_file, &mut *expected) else {
+    let Input::Read(due) = read(expected_file, expected) else {
         return Verdict::Missing;
     };
     if due == expected.len() {

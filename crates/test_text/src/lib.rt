@@ -7,7 +7,5 @@ mod printing;
 mod widths;
 
 pub use lines::{Input, PIECE, finished, read_line};
-pub use printing::{
-    end_line, first, hexadecimal, pair, space, spaced, spaced_eight, spaced_list, spaced_signed,
-};
-pub use widths::{least, magnitude, narrow8, narrow32, wide16, wide32, within};
+pub use printing::{end_line, first, hexadecimal, pair, space, spaced, spaced_list};
+pub use widths::{least, narrow32, within};

@@ -78,7 +78,7 @@ fn step<R: Read>(
     ensures counted { IfOk result (λ next. next.count ≤ length line.old) }
     ensures line_len { length line.new ≡ length line.old }
 {
-    let mut next = filled(reader, input, &mut *piece)?;
+    let mut next = filled(reader, input, piece)?;
     let at = next.at;
     if at < next.end && at < PIECE {
         next.at = at + 1;
@@ -106,7 +106,7 @@ pub fn read_line<R: Read>(
     next.cut = false;
     next.ended = false;
     for _ in 0..u64::MAX {
-        next = step(reader, next, &mut *piece, &mut *line)?;
+        next = step(reader, next, piece, line)?;
         if next.ended {
             return Ok(next);
         }

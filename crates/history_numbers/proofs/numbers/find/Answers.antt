@@ -1,8 +1,7 @@
 -- `history_numbers::numbers::find` meets its contract: `position` answers the first such byte, or that there is none.
-use Rattle.std.proofs.Common.{◌≡◌, ℕ, Bool, Some, None, cond, length, ltb, eqb, rules, tests, unwrap_or}
+use Rattle.std.proofs.Common.{eqb, rules, tests}
 use Rattle.std.proofs.lemmas.Iterator.{YieldsList-from_slice}
 use Rattle.std.proofs.lemmas.Iterator.Search.{position_from_yields_List}
-use Rattle.std.specs.List.{position_or_len}
 use Rattle.history_numbers.proofs.Splitting.{cut_found}
 use Rattle.history_numbers.proofs.numbers.find.Goals as goal
 
