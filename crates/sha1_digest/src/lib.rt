@@ -7,32 +7,20 @@ ghost use Rattle.sha1_blocks.specs.Fips180 as Fips;
 ghost use Rattle.sha1_blocks.specs.Fips180.{bytes};
 ghost use Rattle.sha1_digest.specs.Promises.{Digested};
 
+use refusals::Refusal;
 use sha1_blocks::{Hash, compress};
 
 mod message;
 
-// The answer to a call of `digest`: document 01's refusal number, or 0 and the five words.
-#[derive(Clone, Copy)]
-pub struct DigestAnswer {
-    pub refusal: u32,
-    pub words: [u32; 5],
-}
-
-// The digest of the bytes. More than 65,536 of them are refused with 2 and zeros.
-pub fn digest(message: &[u8]) -> DigestAnswer
+// The digest of the bytes, five words. More than 65,536 bytes are refused with 2.
+pub fn digest(message: &[u8]) -> Result<[u32; 5], Refusal>
     ensures { Digested message.now result }
 {
     if message.len() > message::LIMIT {
-        return DigestAnswer {
-            refusal: 2,
-            words: [0; 5],
-        };
+        return Err(Refusal::Outside);
     }
     let h = message::hash(message);
-    DigestAnswer {
-        refusal: 0,
-        words: [h.h0, h.h1, h.h2, h.h3, h.h4],
-    }
+    Ok([h.h0, h.h1, h.h2, h.h3, h.h4])
 }
 
 // The first word of the digest of twelve bytes: `high` in 8 and `low` in 4, highest byte first.
