@@ -1,6 +1,7 @@
 -- The numbers of a line that is read are within their limits.
 --
---   Fits l             what a line says is within its limits; a line that is not read is refused with 1 or 2
+--   Fitting l          what a line says is within its limits
+--   Fits r             the same of what is read of a line, which is else refused with 1 or 2
 --   shapeless, line_in_fits    a refusal with 1, and every line
 --   line_fits, refused_fits   range lines, and lines that are not read
 --   range_limits       the limits of a range line, one by one
@@ -11,40 +12,46 @@ use Prim.Native.Nat.{ℕ, ◌≤◌}
 use native.Mathlib.Omega.{arith}
 use Rattle.slicing.specs.Limits.{max_range, max_limit, max_id, outside, device_outside}
 use Rattle.slicing.proofs.Limits.{or_false, outside_false}
-use Rattle.history_lines.specs.declared.lines.LineAnswer.{LineAnswer}
-use Rattle.history_lines.specs.declared.lines.LineAnswer.TheVariants.{Range, Add, Remove, Resize, Refused}
-use Rattle.history_numbers.specs.declared.numbers.Parsed.{Parsed}
-use Rattle.history_numbers.specs.declared.numbers.Parsed.TheVariants.{Number, Shapeless}
+use Rattle.std.specs.Prelude.{Option, Some, None, Result, Ok, Err}
+use Rattle.refusals.specs.Replies.{number}
+use Rattle.refusals.specs.declared.Refusal.{Refusal}
+use Rattle.refusals.specs.declared.Refusal.TheVariants.{Shapeless, Outside}
+use Rattle.history_lines.specs.declared.lines.HistoryLine.{HistoryLine}
+use Rattle.history_lines.specs.declared.lines.HistoryLine.TheVariants.{Range, Add, Remove, Resize}
 use Rattle.history_lines.specs.Lines.{range_word, add_word, remove_word, resize_word, same, pair_line, remove_line, range_outside, line_of, line_in}
 use Rattle.history_numbers.specs.Text.{space, split, number_in, capacity_in}
 
 -- a line within its limits
-abbrev pub Fits : LineAnswer → Type 0
-Fits (Refused n) = (1 ≤ n) × (n ≤ 2)
-Fits (Range R M) = range_outside R M ≡ false
-Fits (Add d c) = device_outside d c ≡ false
-Fits (Remove d) = outside max_id d ≡ false
-Fits (Resize d c) = device_outside d c ≡ false
+abbrev pub Fitting : HistoryLine → Type 0
+Fitting (Range R M) = range_outside R M ≡ false
+Fitting (Add d c) = device_outside d c ≡ false
+Fitting (Remove d) = outside max_id d ≡ false
+Fitting (Resize d c) = device_outside d c ≡ false
 
-pub shapeless : Fits (Refused 1)
+-- one of 1 or 2 where it is refused
+abbrev pub Fits : Result HistoryLine Refusal → Type 0
+Fits (Err e) = (1 ≤ number e) × (number e ≤ 2)
+Fits (Ok l) = Fitting l
+
+pub shapeless : Fits (Err Shapeless)
 shapeless = (omega arith, omega arith)
 
-either : (t : Bool) (l m : LineAnswer) → Fits l → Fits m → Fits (cond t l m)
+either : (t : Bool) (l m : Result HistoryLine Refusal) → Fits l → Fits m → Fits (cond t l m)
 either true l m f g = f
 either false l m f g = g
 
-judged : (t : Bool) (l : LineAnswer) → (t ≡ false → Fits l) → Fits (cond t (Refused 2) l)
+judged : (t : Bool) (l : HistoryLine) → (t ≡ false → Fitting l) → Fits (cond t (Err Outside) (Ok l))
 judged true l f = (omega arith, omega arith)
 judged false l f = f refl
 
-pair_fits : (f : ℕ → ℕ → LineAnswer) (out : ℕ → ℕ → Bool) → ((a b : ℕ) → out a b ≡ false → Fits (f a b)) → (p q : Parsed) → Fits (pair_line f out p q)
-pair_fits f out h Shapeless q = shapeless
-pair_fits f out h (Number a) Shapeless = shapeless
-pair_fits f out h (Number a) (Number b) = judged (out a b) (f a b) (h a b)
+pair_fits : (f : ℕ → ℕ → HistoryLine) (out : ℕ → ℕ → Bool) → ((a b : ℕ) → out a b ≡ false → Fitting (f a b)) → (p q : Option ℕ) → Fits (pair_line f out p q)
+pair_fits f out h None q = shapeless
+pair_fits f out h (Some a) None = shapeless
+pair_fits f out h (Some a) (Some b) = judged (out a b) (f a b) (h a b)
 
-removed_fits : (p : Parsed) → Fits (remove_line p)
-removed_fits Shapeless = shapeless
-removed_fits (Number d) = judged (outside max_id d) (Remove d) (λ e. e)
+removed_fits : (p : Option ℕ) → Fits (remove_line p)
+removed_fits None = shapeless
+removed_fits (Some d) = judged (outside max_id d) (Remove d) (λ e. e)
 
 words_fit : (ws : List (List ℕ)) → Fits (line_of ws)
 words_fit [] = shapeless
@@ -60,11 +67,11 @@ pub line_in_fits : (xs : List ℕ) → Fits (line_in xs)
 unfolding line_in
 line_in_fits xs = words_fit (split space xs)
 
-pub line_fits : (xs : List ℕ) (R M : ℕ) → line_in xs ≡ Range R M → range_outside R M ≡ false
+pub line_fits : (xs : List ℕ) (R M : ℕ) → line_in xs ≡ Ok (Range R M) → range_outside R M ≡ false
 line_fits xs R M e = subst Fits e (line_in_fits xs)
 
-pub refused_fits : (xs : List ℕ) (n : ℕ) → line_in xs ≡ Refused n → (1 ≤ n) × (n ≤ 2)
-refused_fits xs n e = subst Fits e (line_in_fits xs)
+pub refused_fits : (xs : List ℕ) (e : Refusal) → line_in xs ≡ Err e → (1 ≤ number e) × (number e ≤ 2)
+refused_fits xs e q = subst Fits q (line_in_fits xs)
 
 pub range_limits : (R M : ℕ) → range_outside R M ≡ false → (1 ≤ R) × (R ≤ max_range) × (1 ≤ M) × (M ≤ max_limit)
 range_limits R M e =

@@ -8,11 +8,13 @@ use mathlib.Core.List.{List, [], ◌∷◌}
 use Prim.Native.Nat.{ℕ}
 use lib.Dec.{eqb}
 use lib.ListN.{length, take}
+use Rattle.std.specs.Prelude.{Result, Err}
 use Rattle.std.specs.Cmp.Lexicographic.{pointwise}
+use Rattle.refusals.specs.declared.Refusal.{Refusal}
+use Rattle.refusals.specs.declared.Refusal.TheVariants.{Shapeless}
 use Rattle.history_numbers.specs.Text.{space, split, number_in}
 use Rattle.history_lines.specs.Lines.{line_reply, same, range_word, add_word, remove_word, resize_word, remove_line, three_words, line_of, line_in, LineRead}
-use Rattle.history_lines.specs.declared.lines.LineAnswer.{LineAnswer}
-use Rattle.history_lines.specs.declared.lines.LineAnswer.TheVariants.{Refused}
+use Rattle.history_lines.specs.declared.lines.HistoryLine.{HistoryLine}
 use Rattle.history_numbers.proofs.Splitting.{split_some, Found, behind, cut_made, found_whole, cut_split}
 
 -- ---- same
@@ -30,15 +32,15 @@ same_told k w e f g = same_eq k w ∙ sym (rw f at e) ∙ g
 
 -- ---- words
 
-pub three_none : (k a b : List ℕ) → same k range_word ≡ false → same k add_word ≡ false → same k resize_word ≡ false → Refused 1 ≡ three_words k a b
+pub three_none : (k a b : List ℕ) → same k range_word ≡ false → same k add_word ≡ false → same k resize_word ≡ false → Err Shapeless ≡ three_words k a b
 three_none k a b e f g = rw (e, f, g)
 
-line_of_more : (k a b : List ℕ) (ps : List (List ℕ)) → (ps ≡ [] → ⊥) → line_of (k ∷ a ∷ b ∷ ps) ≡ Refused 1
+line_of_more : (k a b : List ℕ) (ps : List (List ℕ)) → (ps ≡ [] → ⊥) → line_of (k ∷ a ∷ b ∷ ps) ≡ Err Shapeless
 line_of_more k a b [] h = absurd (h refl)
 line_of_more k a b (p ∷ ps) h = refl
 
 module _ (xs : List ℕ) (n : ℕ) (f : Found space xs n) where
-  pub line_one : n ≡ length xs → Refused 1 ≡ line_in xs
+  pub line_one : n ≡ length xs → Err Shapeless ≡ line_in xs
   unfolding line_in
   line_one e = rw (found_whole space xs n f e)
 
@@ -55,7 +57,7 @@ module _ (xs : List ℕ) (n : ℕ) (f : Found space xs n) where
       unfolding line_in
       line_remove h = rw (cut, found_whole space ys m g e, h)
 
-      pub line_two : same (take n xs) remove_word ≡ false → Refused 1 ≡ line_in xs
+      pub line_two : same (take n xs) remove_word ≡ false → Err Shapeless ≡ line_in xs
       unfolding line_in
       line_two h = rw (cut, found_whole space ys m g e, h)
 
@@ -70,12 +72,12 @@ module _ (xs : List ℕ) (n : ℕ) (f : Found space xs n) where
       unfolding line_in
       line_three e = rw (cut_twice, found_whole space zs o h e)
 
-      pub line_four : (o ≡ length zs → ⊥) → Refused 1 ≡ line_in xs
+      pub line_four : (o ≡ length zs → ⊥) → Err Shapeless ≡ line_in xs
       unfolding line_in
       line_four e =
           let rest : List ℕ = behind zs o in
           rw (cut_twice, cut_split space zs o rest (cut_made space zs o h e))
           (sym (line_of_more (take n xs) (take m ys) (take o zs) (split space rest) (split_some space rest)))
 
-pub line_read : {xs : List ℕ} {r : LineAnswer} → r ≡ line_in xs → LineRead xs r
+pub line_read : {xs : List ℕ} {r : Result HistoryLine Refusal} → r ≡ line_in xs → LineRead xs r
 line_read e = record { answer = e; reply = ap line_reply e }

@@ -15,7 +15,10 @@ use native.Mathlib.Omega.{arith}
 use lib.Dec.{ltb}
 use lib.ListN.{length, take, drop, length-drop}
 use borrow.Author.Tests.{ltb-true, ltb-false}
-use Rattle.history_lines.specs.declared.lines.LineAnswer.TheVariants.{Refused}
+use Rattle.std.specs.Prelude.{Err}
+use Rattle.refusals.specs.Replies.{number}
+use Rattle.refusals.specs.declared.Refusal.{Refusal}
+use Rattle.refusals.specs.declared.Refusal.TheVariants.{Shapeless}
 use Rattle.history_lines.specs.declared.lines.Part.{Part}
 use Rattle.history_numbers.specs.Cuts.{cut_at}
 use Rattle.history_lines.specs.Cuts.{part_at}
@@ -35,7 +38,7 @@ module _ (xs : List ℕ) (n : ℕ) where
   ended_part = record { said = line_in (take end_at rest_at); next = n + end_at + 1 }
 
   abbrev pub unended_part : Part
-  unended_part = record { said = Refused 1; next = length xs }
+  unended_part = record { said = Err Shapeless; next = length xs }
 
   module _ (p : Part) (q : p ≡ part_at xs n) where
     pub part_cases : (P : Part → Type 0) → (end_at < length rest_at → P ended_part) → (end_at ≡ length rest_at → P unended_part) → P p
@@ -48,8 +51,8 @@ module _ (xs : List ℕ) (n : ℕ) where
     pub part_fits : Fits p.said
     part_fits = part_cases (λ k. Fits k.said) (λ b. line_in_fits (take end_at rest_at)) (λ b. shapeless)
 
-    pub part_refused : (m : ℕ) → p.said ≡ Refused m → m ≤ 2
-    part_refused m e = (subst Fits e part_fits).1
+    pub part_refused : (e : Refusal) → p.said ≡ Err e → number e ≤ 2
+    part_refused e q = (subst Fits q part_fits).1
 
     module _ (l : n < length xs) where
       pub part_above : n < p.next

@@ -4,5 +4,5 @@
 
 mod lines;
 
-pub use history_numbers::{CapacityAnswer, capacity};
-pub use lines::{LineAnswer, Part, line, part_at};
+pub use history_numbers::capacity;
+pub use lines::{HistoryLine, Part, line, part_at};

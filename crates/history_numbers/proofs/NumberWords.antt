@@ -13,11 +13,11 @@ use lib.Dec.{eqb}
 use lib.ListN.{length, get_or, take, drop}
 use lib.Seq.{take-length}
 use borrow.Author.Tests.{lt-ltb, le-ltb, lt-leb, ne_eqb, eqb-true, eqb-false}
+use Rattle.std.specs.Prelude.{Some, None}
 use Rattle.slicing.specs.Limits.{outside}
 use Rattle.slicing.proofs.Limits.{within_limits}
 use Rattle.history_numbers.specs.Cuts.{cut_at}
 use Rattle.history_numbers.specs.Text.{point, split, is_digit, all_digits, spelled, leading_zero, is_number, number_in, is_fraction, fraction_of, thousandths, capacity_in}
-use Rattle.history_numbers.specs.declared.numbers.Parsed.TheVariants.{Number, Shapeless}
 use Rattle.history_numbers.proofs.Splitting.{cut_at_below, split_whole, split_cut, split_some, Found, behind, Cut, cut_made, found_whole, cut_split}
 use Rattle.history_numbers.proofs.DigitWords.{no_number, same_number}
 
@@ -27,11 +27,11 @@ pub and_false : (t : Bool) → t && false ≡ false
 and_false true = refl
 and_false false = refl
 
-cond_none : (t : Bool) (n : ℕ) → cond t (Number n) Shapeless ≡ Shapeless → t ≡ false
+cond_none : (t : Bool) (n : ℕ) → cond t (Some n) None ≡ None → t ≡ false
 cond_none true n e = absurd (no_number n (sym e))
 cond_none false n e = refl
 
-cond_some : (t : Bool) (n v : ℕ) → cond t (Number n) Shapeless ≡ Number v → (t ≡ true) × (n ≡ v)
+cond_some : (t : Bool) (n v : ℕ) → cond t (Some n) None ≡ Some v → (t ≡ true) × (n ≡ v)
 cond_some true n v e = (refl, same_number n v e)
 cond_some false n v e = absurd (no_number v e)
 
@@ -67,20 +67,20 @@ leading_single (b ∷ []) h = refl
 leading_single (b ∷ c ∷ bs) h = absurd (omega arith)
 
 module _ (w : List ℕ) where
-  none : is_number w ≡ false → Shapeless ≡ number_in w
+  none : is_number w ≡ false → None ≡ number_in w
   unfolding number_in
   none e = rw e
 
-  pub number_short : length w < 1 → Shapeless ≡ number_in w
+  pub number_short : length w < 1 → None ≡ number_in w
   number_short h = none (rw (outside_low 10 (length w) h))
 
-  pub number_long : 10 < length w → Shapeless ≡ number_in w
+  pub number_long : 10 < length w → None ≡ number_in w
   number_long h = none (rw (outside_high 10 (length w) (omega arith) h))
 
-  pub number_led : 1 < length w → get_or w 0 0 ≤ 48 → Shapeless ≡ number_in w
+  pub number_led : 1 < length w → get_or w 0 0 ≤ 48 → None ≡ number_in w
   number_led h l = none (leading_low (not (outside 10 (length w))) w h l)
 
-  pub number_digits : 1 ≤ length w → length w ≤ 10 → leading_zero w ≡ false → cond (all_digits w) (Number (spelled 0 w)) Shapeless ≡ number_in w
+  pub number_digits : 1 ≤ length w → length w ≤ 10 → leading_zero w ≡ false → cond (all_digits w) (Some (spelled 0 w)) None ≡ number_in w
   unfolding number_in
   number_digits l m z = rw (within_limits 10 (length w) l m, z)
 
@@ -95,16 +95,16 @@ pointed (b ∷ bs) h = go (eqb b point) refl (pointed bs)
     go false e r = rw (r (omega (arith, rw e at h))) (and_false (is_digit b))
 
 -- a third part
-thousandths_more : (w f : List ℕ) (ps : List (List ℕ)) → (ps ≡ [] → ⊥) → thousandths (w ∷ f ∷ ps) ≡ Shapeless
+thousandths_more : (w f : List ℕ) (ps : List (List ℕ)) → (ps ≡ [] → ⊥) → thousandths (w ∷ f ∷ ps) ≡ None
 thousandths_more w f [] h = absurd (h refl)
 thousandths_more w f (p ∷ ps) h = refl
 
 pub capacity_pointed : (w r : List ℕ)
-    → thousandths (w ∷ split point r) ≡ cond (is_number w && is_fraction r) (Number (1000 * spelled 0 w + fraction_of r)) Shapeless
+    → thousandths (w ∷ split point r) ≡ cond (is_number w && is_fraction r) (Some (1000 * spelled 0 w + fraction_of r)) None
 capacity_pointed w r = go (eqb (cut_at point r) (length r)) refl
   where
     go : (t : Bool) → eqb (cut_at point r) (length r) ≡ t
-        → thousandths (w ∷ split point r) ≡ cond (is_number w && is_fraction r) (Number (1000 * spelled 0 w + fraction_of r)) Shapeless
+        → thousandths (w ∷ split point r) ≡ cond (is_number w && is_fraction r) (Some (1000 * spelled 0 w + fraction_of r)) None
     go true e = rw (split_whole point r (eqb-true (cut_at point r) (length r) e))
     go false e =
         let h : cut_at point r < length r = omega (arith, cut_at_below point r, eqb-false (cut_at point r) (length r) e) in
@@ -113,43 +113,43 @@ capacity_pointed w r = go (eqb (cut_at point r) (length r)) refl
         rw (split_cut point r h, f, and_false (is_number w)) (thousandths_more w (take (cut_at point r) r) (split point rest) (split_some point rest))
 
 module _ (w : List ℕ) (n : ℕ) where
-  no_whole : number_in (take n w) ≡ Shapeless → is_number (take n w) ≡ false
+  no_whole : number_in (take n w) ≡ None → is_number (take n w) ≡ false
   unfolding number_in
   no_whole e = cond_none (is_number (take n w)) (spelled 0 (take n w)) e
 
-  some_whole : (v : ℕ) → number_in (take n w) ≡ Number v → (is_number (take n w) ≡ true) × (spelled 0 (take n w) ≡ v)
+  some_whole : (v : ℕ) → number_in (take n w) ≡ Some v → (is_number (take n w) ≡ true) × (spelled 0 (take n w) ≡ v)
   unfolding number_in
   some_whole v e = cond_some (is_number (take n w)) (spelled 0 (take n w)) v e
 
-  whole_in : Found point w n → n ≡ length w → capacity_in w ≡ cond (is_number (take n w)) (Number (1000 * spelled 0 (take n w))) Shapeless
+  whole_in : Found point w n → n ≡ length w → capacity_in w ≡ cond (is_number (take n w)) (Some (1000 * spelled 0 (take n w))) None
   unfolding capacity_in
   whole_in f e = rw (found_whole point w n f e, e, take-length w)
 
   cut_in : (rest : List ℕ) → Cut point w n rest
-      → capacity_in w ≡ cond (is_number (take n w) && is_fraction rest) (Number (1000 * spelled 0 (take n w) + fraction_of rest)) Shapeless
+      → capacity_in w ≡ cond (is_number (take n w) && is_fraction rest) (Some (1000 * spelled 0 (take n w) + fraction_of rest)) None
   unfolding capacity_in
   cut_in rest c = rw (cut_split point w n rest c) (capacity_pointed (take n w) rest)
 
   module _ (f : Found point w n) where
-    pub capacity_none : number_in (take n w) ≡ Shapeless → Shapeless ≡ capacity_in w
+    pub capacity_none : number_in (take n w) ≡ None → None ≡ capacity_in w
     capacity_none e = go (eqb n (length w)) refl
       where
-        go : (b : Bool) → eqb n (length w) ≡ b → Shapeless ≡ capacity_in w
+        go : (b : Bool) → eqb n (length w) ≡ b → None ≡ capacity_in w
         go true k = rw (whole_in f (eqb-true n (length w) k), no_whole e)
         go false k = rw (cut_in (behind w n) (cut_made point w n f (eqb-false n (length w) k)), no_whole e)
 
-    pub capacity_whole : (v : ℕ) → number_in (take n w) ≡ Number v → n ≡ length w → Number (1000 * v) ≡ capacity_in w
+    pub capacity_whole : (v : ℕ) → number_in (take n w) ≡ Some v → n ≡ length w → Some (1000 * v) ≡ capacity_in w
     capacity_whole v e l = rw (whole_in f l, (some_whole v e).0, (some_whole v e).1)
 
-    module _ (i : n ≡ length w → ⊥) (v : ℕ) (e : number_in (take n w) ≡ Number v) where
-      cut : capacity_in w ≡ cond (is_fraction (behind w n)) (Number (1000 * v + fraction_of (behind w n))) Shapeless
+    module _ (i : n ≡ length w → ⊥) (v : ℕ) (e : number_in (take n w) ≡ Some v) where
+      cut : capacity_in w ≡ cond (is_fraction (behind w n)) (Some (1000 * v + fraction_of (behind w n))) None
       cut = rw (cut_in (behind w n) (cut_made point w n f i), (some_whole v e).0, (some_whole v e).1)
 
-      pub capacity_rest : cond (is_fraction (behind w n)) (Number (fraction_of (behind w n))) Shapeless ≡ Shapeless → Shapeless ≡ capacity_in w
+      pub capacity_rest : cond (is_fraction (behind w n)) (Some (fraction_of (behind w n))) None ≡ None → None ≡ capacity_in w
       capacity_rest k = rw (cut, cond_none (is_fraction (behind w n)) (fraction_of (behind w n)) k)
 
-      pub capacity_all : (u : ℕ) → cond (is_fraction (behind w n)) (Number (fraction_of (behind w n))) Shapeless ≡ Number u
-          → Number (1000 * v + u) ≡ capacity_in w
+      pub capacity_all : (u : ℕ) → cond (is_fraction (behind w n)) (Some (fraction_of (behind w n))) None ≡ Some u
+          → Some (1000 * v + u) ≡ capacity_in w
       capacity_all u k =
           let s = cond_some (is_fraction (behind w n)) (fraction_of (behind w n)) u k in
           rw (cut, s.0, s.1)

@@ -4,4 +4,4 @@
 
 mod numbers;
 
-pub use numbers::{CapacityAnswer, Parsed, capacity, find, number};
+pub use numbers::{capacity, find, number};

@@ -1,25 +1,11 @@
 // Numbers and capacities of history text.
-ghost use Rattle.std.specs.Prelude.{◌≡◌, cond, ℕ, ◌≤◌, ◌<◌, ◌^◌, length};
+ghost use Rattle.std.specs.Prelude.{◌≡◌, cond, ℕ, Some, None, ◌≤◌, ◌<◌, ◌^◌, length};
 ghost use Rattle.history_numbers.specs.Cuts.{cut_at};
 ghost use Rattle.history_numbers.specs.Capacities.{CapacityRead};
 ghost use Rattle.history_numbers.specs.Text.{all_digits, spelled, is_fraction, fraction_of, number_in, capacity_in};
-ghost use Rattle.history_numbers.specs.declared.numbers.Parsed.TheVariants.{Number, Shapeless};
 
-use slicing::{MAX_CAPACITY, OUTSIDE, SHAPELESS, outside};
-
-// A word read as a number.
-#[derive(Clone, Copy)]
-pub enum Parsed {
-    Number(u64),
-    Shapeless,
-}
-
-// The answer of the capacity reader.
-#[derive(Clone, Copy)]
-pub enum CapacityAnswer {
-    Thousandths(u64),
-    Refused(u32),
-}
+use refusals::Refusal;
+use slicing::{MAX_CAPACITY, outside};
 
 // The place of the first such byte, the length where there is none.
 pub fn find(text: &[u8], byte: u8) -> usize
@@ -29,81 +15,75 @@ pub fn find(text: &[u8], byte: u8) -> usize
 }
 
 // The number that at most ten digits spell.
-fn digits(word: &[u8]) -> Parsed
+fn digits(word: &[u8]) -> Option<u64>
     requires { length word.now ≤ 10 }
-    ensures value { result ≡ cond (all_digits word.now) (Number (spelled 0 word.now)) Shapeless }
-    ensures by_index { (n : ℕ) → result ≡ Number n → n < 10 ^ length word.now }
+    ensures value { result ≡ cond (all_digits word.now) (Some (spelled 0 word.now)) None }
+    ensures by_index { (n : ℕ) → result ≡ Some n → n < 10 ^ length word.now }
 {
     let mut value = 0;
     for byte in word {
         if !byte.is_ascii_digit() {
-            return Parsed::Shapeless;
+            return None;
         }
         value = 10 * value + u64::from(*byte - b'0');
     }
-    Parsed::Number(value)
+    Some(value)
 }
 
-// A word of 1 to 10 digits without a leading zero, or 0.
-pub fn number(word: &[u8]) -> Parsed
+// The number of a word of 1 to 10 digits without a leading zero, or 0.
+pub fn number(word: &[u8]) -> Option<u64>
     ensures value { result ≡ number_in word.now }
-    ensures by_index { (n : ℕ) → result ≡ Number n → n < 10 ^ 10 }
+    ensures by_index { (n : ℕ) → result ≡ Some n → n < 10 ^ 10 }
 {
     let n = word.len();
     if n < 1 || n > 10 {
-        return Parsed::Shapeless;
+        return None;
     }
     if n > 1 && word[0] == b'0' {
-        return Parsed::Shapeless;
+        return None;
     }
     digits(word)
 }
 
 // One to three digits behind the point, in thousandths.
-fn fraction(word: &[u8]) -> Parsed
-    ensures value { result ≡ cond (is_fraction word.now) (Number (fraction_of word.now)) Shapeless }
-    ensures by_index { (n : ℕ) → result ≡ Number n → n < 1000 }
+fn fraction(word: &[u8]) -> Option<u64>
+    ensures value { result ≡ cond (is_fraction word.now) (Some (fraction_of word.now)) None }
+    ensures by_index { (n : ℕ) → result ≡ Some n → n < 1000 }
 {
     let n = word.len();
     if n == 0 || n > 3 {
-        return Parsed::Shapeless;
+        return None;
     }
-    let Parsed::Number(value) = digits(word) else {
-        return Parsed::Shapeless;
-    };
+    let value = digits(word)?;
     match n {
-        1 => Parsed::Number(100 * value),
-        2 => Parsed::Number(10 * value),
-        _ => Parsed::Number(value),
+        1 => Some(100 * value),
+        2 => Some(10 * value),
+        _ => Some(value),
     }
 }
 
 // A capacity in thousandths of a TB, whatever its size. The largest is that of `9999999999.999`.
-fn thousandths(word: &[u8]) -> Parsed
+fn thousandths(word: &[u8]) -> Option<u64>
     ensures { result ≡ capacity_in word.now }
 {
     let end = find(word, b'.');
-    let Parsed::Number(whole) = number(&word[..end]) else {
-        return Parsed::Shapeless;
-    };
+    let whole = number(&word[..end])?;
     if end == word.len() {
-        return Parsed::Number(1000 * whole);
+        return Some(1000 * whole);
     }
-    let Parsed::Number(rest) = fraction(&word[end + 1..]) else {
-        return Parsed::Shapeless;
-    };
-    Parsed::Number(1000 * whole + rest)
+    let rest = fraction(&word[end + 1..])?;
+    Some(1000 * whole + rest)
 }
 
 // A capacity in thousandths of a TB. 1 for a word that is none, 2 for one outside 1 to 16,000,000.
-pub fn capacity(word: &[u8]) -> CapacityAnswer
+pub fn capacity(word: &[u8]) -> Result<u64, Refusal>
     ensures { CapacityRead word.now result }
 {
-    let Parsed::Number(value) = thousandths(word) else {
-        return CapacityAnswer::Refused(SHAPELESS);
+    let Some(value) = thousandths(word) else {
+        return Err(Refusal::Shapeless);
     };
     if outside(MAX_CAPACITY, value) {
-        return CapacityAnswer::Refused(OUTSIDE);
+        return Err(Refusal::Outside);
     }
-    CapacityAnswer::Thousandths(value)
+    Ok(value)
 }
