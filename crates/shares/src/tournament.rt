@@ -17,7 +17,13 @@ fn winner(points: &[u64; MAX_DEVICES], capacities: &[u64; MAX_DEVICES], a: usize
 {
     let x = capacities[a] * (points[b] + 1);
     let y = capacities[b] * (points[a] + 1);
-    if y < x || (y == x && a < b) { a } else { b }
+    if y < x {
+        a
+    } else if x < y {
+        b
+    } else {
+        a.min(b)
+    }
 }
 
 // Puts the n rows at their leaves.

@@ -1,11 +1,11 @@
 -- Laws of rows: what a loop over arrays needs.
 --
 -- rows: rows_snoc
--- device_rows: device_rows_step, device_rows_end, length_device_rows
+-- device_rows: device_rows_step, length_device_rows
 -- at: at_zeros
 use mathlib.Core.Path.{◌≡◌, refl, ap}
 use mathlib.Core.List.{List, [], ◌∷◌, ◌++◌}
-use Prim.Native.Nat.{ℕ, zero, suc, ◌+◌, ◌-◌, ◌≤◌, ◌<◌}
+use Prim.Native.Nat.{ℕ, zero, suc, ◌+◌, ◌-◌, ◌<◌}
 use native.Mathlib.Omega.{arith}
 use native.Mathlib.Nat.{suc-add, add-zero}
 use native.Mathlib.Numerals.{add-one}
@@ -21,9 +21,6 @@ pub device_rows_step : (d c : List ℕ) (i q : ℕ) → i < q
 device_rows_step d c i q h =
     let e : q - i ≡ suc (q - (i + 1)) = omega arith in
     rw (e, add-one i)
-
-pub device_rows_end : (d c : List ℕ) (i q : ℕ) → q ≤ i → device_rows d c i (q - i) ≡ []
-device_rows_end d c i q h = let e : q - i ≡ 0 = omega arith in rw e
 
 -- ---- one row more at the end
 
