@@ -31,7 +31,7 @@ use Rattle.image_numbers.specs.Format.{image_of}
 use Rattle.images.specs.Promises.{ReadAs, write_answer, buffer_after}
 use Rattle.images.specs.declared.WriteAnswer.{WriteAnswer}
 use Rattle.images.specs.declared.WriteAnswer.TheVariants as Write
-use Rattle.images.proofs.OnImages.{on_image_refused, on_image_accepted}
+use Rattle.images.proofs.OnImages.{on_image_accepted}
 use Rattle.flat_moves.specs.FlatMoves.{moves_in, flat}
 use Rattle.image_changes.specs.Promises.{Moved, moved_as, Changed}
 use Rattle.flat_moves.proofs.FlatLists.{length_moves_in}

@@ -33,7 +33,7 @@ use Rattle.valid_pools.proofs.FoundDevices.{measured_refused, measured_in}
 use Rattle.valid_pools.proofs.ReportAnswers.{report_from_lem, report_refused}
 use Rattle.images.specs.OnImages.{unmarked, versioned, faulty, accepted}
 use Rattle.images.specs.Promises.{ReadAs}
-use Rattle.images.proofs.OnImages.{on_image_refused, on_image_accepted, on_image_from}
+use Rattle.images.proofs.OnImages.{on_image_accepted, on_image_from}
 use Rattle.answers.specs.Answers.{Answer}
 use Rattle.image_rows.specs.Promises.{Numbered, device_numbers, interval_numbers, listed_as, Listed, FoundOn, share_told, Shared, ReportLeft, Reported}
 use Rattle.image_rows.proofs.ThreeNumbers.{length_devices_with, length_intervals_as}
