@@ -1,5 +1,5 @@
 // Lines that ask for a change: add, remove and resize.
-use crate::words::{Parsed, is, number, word};
+use crate::words::{is, numbers};
 use crate::{Outcome, pool_images};
 use calls::Call;
 use placement::{ChangeAnswer, Move};
@@ -15,57 +15,20 @@ const PLACES: usize = 8448;
 const BLANK: u64 = 7;
 
 // The change that a line asks for, with the number of places to lend, or none.
-#[derive(Clone, Copy)]
-enum Asked {
-    Change(Call, u64),
-    Nothing,
-}
-
-fn with_places(call: Call, word: &[u8]) -> Asked {
-    let Parsed::Number(places) = number(word) else {
-        return Asked::Nothing;
-    };
-    Asked::Change(call, places)
-}
-
-fn add(line: &[u8]) -> Asked {
-    let Parsed::Number(id) = number(word(line, 2)) else {
-        return Asked::Nothing;
-    };
-    let Parsed::Number(capacity) = number(word(line, 3)) else {
-        return Asked::Nothing;
-    };
-    with_places(Call::Add(id, capacity), word(line, 4))
-}
-
-fn remove(line: &[u8]) -> Asked {
-    let Parsed::Number(id) = number(word(line, 2)) else {
-        return Asked::Nothing;
-    };
-    with_places(Call::Remove(id), word(line, 3))
-}
-
-fn resize(line: &[u8]) -> Asked {
-    let Parsed::Number(id) = number(word(line, 2)) else {
-        return Asked::Nothing;
-    };
-    let Parsed::Number(capacity) = number(word(line, 3)) else {
-        return Asked::Nothing;
-    };
-    with_places(Call::Resize(id, capacity), word(line, 4))
-}
-
-fn change_of(line: &[u8]) -> Asked {
+fn change_of(line: &[u8]) -> Option<(Call, u64)> {
     if is(line, b"add", 4) {
-        return add(line);
+        let [id, capacity, places] = numbers::<3>(line, 2)?;
+        return Some((Call::Add(id, capacity), places));
     }
     if is(line, b"remove", 3) {
-        return remove(line);
+        let [id, places] = numbers::<2>(line, 2)?;
+        return Some((Call::Remove(id), places));
     }
     if is(line, b"resize", 4) {
-        return resize(line);
+        let [id, capacity, places] = numbers::<3>(line, 2)?;
+        return Some((Call::Resize(id, capacity), places));
     }
-    Asked::Nothing
+    None
 }
 
 // Start, length, old and new owner of a move.
@@ -106,33 +69,29 @@ fn print_numbers<W: Write>(out: &mut W, answer: ChangeAnswer) -> io::Result<()> 
 
 // A line whose pool is given as its image; false where it asks for no change.
 pub fn run<W: Write>(out: &mut W, pool: Pool, line: &[u8]) -> io::Result<bool> {
-    let Asked::Change(call, places) = change_of(line) else {
+    let Some((call, places)) = change_of(line) else {
         return Ok(false);
     };
     let lent = test_lent_lists::changed(pool, call, least(places, PLACES));
-    let list = lent.list;
     let answer = lent.answer;
-    let after = answer.pool;
     print_numbers(out, answer)?;
     space(out)?;
-    pool_images::print(out, after)?;
-    moves(out, &list, answer.count)?;
+    pool_images::print(out, answer.pool)?;
+    moves(out, &lent.list, answer.count)?;
     end_line(out)?;
     Ok(true)
 }
 
 // A line whose pool is the kept one.
 pub fn run_kept<W: Write>(out: &mut W, kept: Pool, line: &[u8]) -> io::Result<Outcome> {
-    let Asked::Change(call, places) = change_of(line) else {
+    let Some((call, places)) = change_of(line) else {
         return Ok(Outcome::bad(kept));
     };
     let n = least(places, PLACES);
     let lent = test_lent_lists::changed(kept, call, n);
-    let list = lent.list;
     let answer = lent.answer;
-    let after = answer.pool;
     print_numbers(out, answer)?;
-    spaced(out, unchanged(&list, answer.count, n) as u64)?;
+    spaced(out, unchanged(&lent.list, answer.count, n) as u64)?;
     end_line(out)?;
-    Ok(Outcome::good(after))
+    Ok(Outcome::good(answer.pool))
 }

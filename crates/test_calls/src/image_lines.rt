@@ -1,5 +1,5 @@
 // Lines that write the image of a pool: `write` and `reread`. The buffer is of bytes aa before.
-use crate::words::{MOST, Parsed, number, word};
+use crate::words::{MOST, number, word};
 use crate::{pool_images, printing, spelling};
 use pools::{Pool, PoolAnswer};
 use std::io;
@@ -13,7 +13,7 @@ fn write_into<W: Write>(out: &mut W, pool: Pool, buffer: &mut [u8]) -> io::Resul
 }
 
 pub fn write<W: Write>(out: &mut W, pool: Pool, line: &[u8]) -> io::Result<bool> {
-    let Parsed::Number(size) = number(word(line, 2)) else {
+    let Some(size) = number(word(line, 2)) else {
         return Ok(false);
     };
     if size > MOST as u64 {

@@ -1,28 +1,22 @@
 // Lines that look something up: points, owners, copies, shares and reports.
 use crate::printing;
-use crate::words::{Parsed, number, number32, word};
+use crate::words::{number, number32, numbers, word};
 use lookups::Counters;
 use pools::Pool;
 use std::io;
 use std::io::Write;
-use test_text::narrow32;
 
 pub fn point<W: Write>(out: &mut W, line: &[u8]) -> io::Result<bool> {
-    let Parsed::Number(block) = number(word(line, 1)) else {
+    let Some(list) = numbers::<3>(line, 1) else {
         return Ok(false);
     };
-    let Parsed::Number(probe) = number(word(line, 2)) else {
-        return Ok(false);
-    };
-    let Parsed::Number(range) = number(word(line, 3)) else {
-        return Ok(false);
-    };
+    let [block, probe, range] = list;
     printing::point(out, lookups::point(block, probe, range))?;
     Ok(true)
 }
 
 pub fn owner<W: Write>(out: &mut W, pool: Pool, line: &[u8]) -> io::Result<bool> {
-    let Parsed::Number(point) = number(word(line, 2)) else {
+    let Some(point) = number(word(line, 2)) else {
         return Ok(false);
     };
     printing::owner(out, lookups::owner_of(pool, point))?;
@@ -30,7 +24,7 @@ pub fn owner<W: Write>(out: &mut W, pool: Pool, line: &[u8]) -> io::Result<bool>
 }
 
 pub fn share<W: Write>(out: &mut W, pool: Pool, line: &[u8]) -> io::Result<bool> {
-    let Parsed::Number(id) = number(word(line, 2)) else {
+    let Some(id) = number(word(line, 2)) else {
         return Ok(false);
     };
     printing::share(out, valid_pools::share(pool, id))?;
@@ -38,7 +32,7 @@ pub fn share<W: Write>(out: &mut W, pool: Pool, line: &[u8]) -> io::Result<bool>
 }
 
 pub fn report<W: Write>(out: &mut W, pool: Pool, line: &[u8]) -> io::Result<bool> {
-    let Parsed::Number(id) = number(word(line, 2)) else {
+    let Some(id) = number(word(line, 2)) else {
         return Ok(false);
     };
     printing::report(out, valid_pools::report(pool, id))?;
@@ -46,22 +40,17 @@ pub fn report<W: Write>(out: &mut W, pool: Pool, line: &[u8]) -> io::Result<bool
 }
 
 pub fn copies<W: Write>(out: &mut W, pool: Pool, line: &[u8]) -> io::Result<bool> {
-    let Parsed::Number(block) = number(word(line, 2)) else {
+    let Some(list) = numbers::<2>(line, 2) else {
         return Ok(false);
     };
-    let Parsed::Number(k) = number(word(line, 3)) else {
+    let [block, k] = list;
+    let Some(lookups) = number32(word(line, 4)) else {
         return Ok(false);
     };
-    let Parsed::Number(accepted) = number32(word(line, 4)) else {
+    let Some(probes) = number32(word(line, 5)) else {
         return Ok(false);
     };
-    let Parsed::Number(probes) = number32(word(line, 5)) else {
-        return Ok(false);
-    };
-    let counters = Counters {
-        lookups: narrow32(accepted),
-        probes: narrow32(probes),
-    };
+    let counters = Counters { lookups, probes };
     printing::copies(out, lookups::copies_of(pool, block, k, counters))?;
     Ok(true)
 }

@@ -75,7 +75,7 @@ impl Outcome {
     pub fn good(pool: Pool) -> Self {
         Self {
             answered: true,
-            pool: pool,
+            pool,
         }
     }
 
@@ -131,12 +131,10 @@ fn bytes_line<W: Write>(out: &mut W, line: &[u8], bytes: &mut [u8]) -> io::Resul
         return Ok(true);
     }
     if is(line, b"single", 1) {
-        single_bytes::run(out, &mut *bytes)?;
+        single_bytes::run(out, bytes)?;
         return Ok(true);
     }
-    let answer = images::read(bytes);
-    let pool = answer.pool;
-    pool_line(out, pool, line)
+    pool_line(out, images::read(bytes).pool, line)
 }
 
 // A line that does not name the kept pool.
@@ -145,10 +143,9 @@ fn other_line<W: Write>(out: &mut W, line: &[u8]) -> io::Result<bool> {
         return lookup_lines::point(out, line);
     }
     let mut bytes = [0u8; MOST];
-    let size = words::bytes(word(line, 1), &mut bytes);
-    if size > MOST {
+    let Some(size) = words::bytes(word(line, 1), &mut bytes) else {
         return Ok(false);
-    }
+    };
     let n = within(size, &bytes);
     bytes_line(out, line, &mut bytes[..n])
 }
@@ -188,9 +185,8 @@ fn run<W: Write>(out: &mut W, kept: Pool, line: &[u8]) -> io::Result<Outcome> {
 fn answer<W: Write>(out: &mut W, kept: Pool, line: &[u8], cut: bool) -> io::Result<Pool> {
     if !cut {
         let outcome = run(out, kept, line)?;
-        let pool = outcome.pool;
         if outcome.answered {
-            return Ok(pool);
+            return Ok(outcome.pool);
         }
     }
     out.write_all(b"bad line\n")?;
@@ -200,8 +196,7 @@ fn answer<W: Write>(out: &mut W, kept: Pool, line: &[u8], cut: bool) -> io::Resu
 // Answers the lines of a reader to its end. Their number has no limit that could be reached; the count is
 // there for the proof of the end.
 fn answer_all<R: Read, W: Write>(reader: &mut R, out: &mut W) -> io::Result<()> {
-    let made = pools::fresh(1, 1);
-    let mut kept = made.pool;
+    let mut kept = pools::fresh(1, 1).pool;
     let mut piece = [0u8; PIECE];
     let mut line = [0u8; LONGEST];
     let mut input = Input::new();

@@ -9,7 +9,7 @@ use test_text::within;
 
 // Stores the image of a pool. Answers its length, 0 for a pool that no image gives.
 pub fn stored(pool: Pool, buffer: &mut [u8]) -> usize {
-    match images::write(pool, &mut *buffer) {
+    match images::write(pool, buffer) {
         WriteAnswer::Written(size) => size,
         WriteAnswer::Refused(_) => 0,
     }

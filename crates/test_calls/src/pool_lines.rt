@@ -1,49 +1,31 @@
 // Lines that make the kept pool, and the one that shows it: `fresh`, `pool` and `show`.
-use crate::words::{Parsed, number, number32, word};
+use crate::words::{number, number32, numbers, word};
 use crate::{Outcome, pool_rows, printing};
 use pools::Pool;
 use std::io;
 use std::io::Write;
-use test_text::{end_line, first, narrow32, spaced};
+use test_text::{end_line, first, spaced};
 
 pub fn fresh<W: Write>(out: &mut W, kept: Pool, line: &[u8]) -> io::Result<Outcome> {
-    let Parsed::Number(range) = number(word(line, 1)) else {
+    let Some(list) = numbers::<2>(line, 1) else {
         return Ok(Outcome::bad(kept));
     };
-    let Parsed::Number(limit) = number(word(line, 2)) else {
-        return Ok(Outcome::bad(kept));
-    };
+    let [range, limit] = list;
     let answer = pools::fresh(range, limit);
-    let pool = answer.pool;
     printing::made(out, answer)?;
-    Ok(Outcome::good(pool))
+    Ok(Outcome::good(answer.pool))
 }
 
-// The four numbers of a `pool` line.
-#[derive(Clone, Copy)]
-enum Head {
-    Four(u64, u64, u64, u64),
-    Bad,
-}
-
-fn head_of(line: &[u8]) -> Head {
-    let Parsed::Number(range) = number(word(line, 1)) else {
-        return Head::Bad;
-    };
-    let Parsed::Number(limit) = number32(word(line, 2)) else {
-        return Head::Bad;
-    };
-    let Parsed::Number(devices) = number(word(line, 3)) else {
-        return Head::Bad;
-    };
-    let Parsed::Number(intervals) = number(word(line, 4)) else {
-        return Head::Bad;
-    };
-    Head::Four(range, limit, devices, intervals)
+// The four numbers of a `pool` line: range, limit, and how many devices and intervals.
+fn head_of(line: &[u8]) -> Option<(u64, u32, u64, u64)> {
+    let range = number(word(line, 1))?;
+    let limit = number32(word(line, 2))?;
+    let [devices, intervals] = numbers::<2>(line, 3)?;
+    Some((range, limit, devices, intervals))
 }
 
 pub fn pool<W: Write>(out: &mut W, kept: Pool, line: &[u8]) -> io::Result<Outcome> {
-    let Head::Four(range, limit, devices, intervals) = head_of(line) else {
+    let Some((range, limit, devices, intervals)) = head_of(line) else {
         return Ok(Outcome::bad(kept));
     };
     let mut ids = [0u16; 256];
@@ -59,28 +41,24 @@ pub fn pool<W: Write>(out: &mut W, kept: Pool, line: &[u8]) -> io::Result<Outcom
     first(out, 0)?;
     end_line(out)?;
     Ok(Outcome::good(Pool {
-        range: range,
-        limit: narrow32(limit),
+        range,
+        limit,
         devices: devices as usize,
-        ids: ids,
-        capacities: capacities,
+        ids,
+        capacities,
         intervals: intervals as usize,
-        starts: starts,
-        owners: owners,
+        starts,
+        owners,
     }))
 }
 
 pub fn show<W: Write>(out: &mut W, kept: Pool) -> io::Result<Outcome> {
-    let ids = kept.ids;
-    let capacities = kept.capacities;
-    let starts = kept.starts;
-    let owners = kept.owners;
     first(out, kept.range)?;
     spaced(out, kept.limit)?;
     spaced(out, kept.devices as u64)?;
     spaced(out, kept.intervals as u64)?;
-    pool_rows::print(out, &ids, &capacities, true)?;
-    pool_rows::print(out, &owners, &starts, false)?;
+    pool_rows::print(out, &kept.ids, &kept.capacities, true)?;
+    pool_rows::print(out, &kept.owners, &kept.starts, false)?;
     end_line(out)?;
     Ok(Outcome::good(kept))
 }

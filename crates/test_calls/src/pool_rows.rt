@@ -10,25 +10,17 @@ use test_text::space;
 // The bytes of a row.
 const ROW: usize = 6;
 
-fn wide(x: u8) -> u64
-    ensures { result < 256 }
-{
-    x as u64
-}
-
 // The number in two bytes, and in four, the highest byte first.
-fn two(bytes: &[u8], at: usize) -> u64
+fn two(bytes: &[u8], at: usize) -> u16
     requires { at + 2 ≤ length bytes.now }
-    ensures { result < 65536 }
 {
-    256 * wide(bytes[at]) + wide(bytes[at + 1])
+    u16::from_be_bytes([bytes[at], bytes[at + 1]])
 }
 
-fn four(bytes: &[u8], at: usize) -> u64
+fn four(bytes: &[u8], at: usize) -> u32
     requires { at + 4 ≤ length bytes.now }
-    ensures { result < 4294967296 }
 {
-    65536 * two(bytes, at) + two(bytes, at + 2)
+    u32::from_be_bytes([bytes[at], bytes[at + 1], bytes[at + 2], bytes[at + 3]])
 }
 
 // Stores n rows, each a device's id and another number, which stand at these places of a row.
@@ -36,8 +28,8 @@ fn load(bytes: &[u8], n: usize, id: usize, value: usize, ids: &mut [u16], values
     requires { (id ≤ 4) × (value ≤ 2) × (6 * n ≤ length bytes.now) × (n ≤ length ids.old) × (n ≤ length values.old) }
 {
     for i in 0..n {
-        ids[i] = two(bytes, ROW * i + id) as u16;
-        values[i] = four(bytes, ROW * i + value) as u32;
+        ids[i] = two(bytes, ROW * i + id);
+        values[i] = four(bytes, ROW * i + value);
     }
 }
 
@@ -46,21 +38,14 @@ pub fn loaded(word: &[u8], id: usize, value: usize, ids: &mut [u16], values: &mu
     requires { (id ≤ 4) × (value ≤ 2) }
 {
     let mut bytes = [0u8; MOST];
-    let size = words::bytes(word, &mut bytes);
+    let Some(size) = words::bytes(word, &mut bytes) else {
+        return false;
+    };
     let n = size / ROW;
-    if size > MOST {
+    if size > MOST || size != ROW * n || n > ids.len() || n > values.len() {
         return false;
     }
-    if size != ROW * n {
-        return false;
-    }
-    if n > ids.len() {
-        return false;
-    }
-    if n > values.len() {
-        return false;
-    }
-    load(&bytes, n, id, value, &mut *ids, &mut *values);
+    load(&bytes, n, id, value, ids, values);
     true
 }
 

@@ -31,9 +31,8 @@ fn due_at(place: usize) -> u32 {
 // to 16 where they are refused for that place, and else 1.
 fn judged(bytes: &[u8], place: usize) -> u64 {
     let answer = images::read(bytes);
-    let pool = answer.pool;
     if answer.refusal == 0 {
-        if is_image(pool, bytes) {
+        if is_image(answer.pool, bytes) {
             return 0;
         }
         return 1;
@@ -91,7 +90,7 @@ pub fn run<W: Write>(out: &mut W, bytes: &mut [u8]) -> io::Result<()> {
         wrong: 0,
     };
     for place in 0..bytes.len() {
-        tally = changed(&mut *bytes, place, tally);
+        tally = changed(bytes, place, tally);
     }
     print(out, tally)
 }

@@ -20,7 +20,5 @@ pub fn bytes<W: Write>(out: &mut W, bytes: &[u8]) -> io::Result<()> {
 
 // The digest of some bytes.
 pub fn digest<W: Write>(out: &mut W, bytes: &[u8]) -> io::Result<()> {
-    let answer = sha1_digest::digest(bytes);
-    let words = answer.words;
-    test_text::hexadecimal(out, &words)
+    test_text::hexadecimal(out, &sha1_digest::digest(bytes).words)
 }

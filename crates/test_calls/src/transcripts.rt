@@ -6,7 +6,7 @@ use std::io::Write;
 use test_text::{end_line, first, pair, space, spaced, within};
 
 fn run<W: Write>(out: &mut W, text: &[u8], room: &mut [u8]) -> io::Result<()> {
-    match history::transcript(text, &mut *room) {
+    match history::transcript(text, room) {
         TranscriptAnswer::Printed(size) => {
             let n = within(size, room);
             first(out, 0)?;
