@@ -1,13 +1,13 @@
 // For bench/lookups.
-use crate::checksums::{mix, wide16, wide32};
+use crate::checksums::mix;
 use lookups::Counters;
 use slicing::MAX_INTERVALS;
 
 // A checksum with the first three of a list of owners.
 fn mix_owners(x: u64, owners: &[u16; 8]) -> u64 {
     mix(
-        mix(mix(x, wide16(owners[0])), wide16(owners[1])),
-        wide16(owners[2]),
+        mix(mix(x, u64::from(owners[0])), u64::from(owners[1])),
+        u64::from(owners[2]),
     )
 }
 
@@ -24,17 +24,17 @@ pub extern "C" fn bench_lookups_run<'a>(
 ) -> u64 {
     let mut counters = Counters::new();
     let mut sum = 0;
-    let mut block = 0;
-    while block < count {
+    for block in 0..count {
         let answer = lookups::copies_in(
             starts, owners, intervals, devices, range, block, 3, counters,
         );
         counters = answer.counters;
-        let list = answer.owners;
-        sum = mix(sum, wide32(answer.refusal));
-        sum = mix_owners(sum, &list);
-        sum = mix(sum, wide32(answer.probes));
-        block += 1;
+        sum = mix(sum, u64::from(answer.refusal));
+        sum = mix_owners(sum, &answer.owners);
+        sum = mix(sum, u64::from(answer.probes));
     }
-    mix(mix(sum, wide32(counters.lookups)), wide32(counters.probes))
+    mix(
+        mix(sum, u64::from(counters.lookups)),
+        u64::from(counters.probes),
+    )
 }

@@ -1,13 +1,11 @@
 -- The calls for copies: what they leave, from what the calls beneath them answered.
 --
--- answered_by (what a block's answer leaves)
--- one block: one_tally, one_row (no room for the tally, for the row), one_refused (a refused image), one_copied
--- many blocks: many_tally, many_rows, many_refused, many_copied
+-- answered_by (what a block's answer leaves); one_copied (one block), many_copied (many)
 use mathlib.Core.Path.{◌≡◌, refl, sym, ap, ◌∙◌}
 use mathlib.Core.List.{List, ◌∷◌, ◌++◌}
-use Prim.Native.Nat.{ℕ, ◌*◌, ◌/◌, ◌≤◌, ◌<◌}
+use Prim.Native.Nat.{ℕ, ◌*◌, ◌/◌, ◌≤◌}
 use native.Mathlib.Omega.{arith}
-use lib.ListN.{length, drop, replicate}
+use lib.ListN.{length, drop}
 use lib.Seq.{append_snoc}
 use Rattle.pools.specs.Pools.{state_of}
 use Rattle.pools.specs.declared.PoolAnswer.{PoolAnswer}
@@ -17,7 +15,7 @@ use Rattle.lookups.specs.declared.CopiesAnswer.{CopiesAnswer}
 use Rattle.lookups.specs.declared.Counters.{Counters}
 use Rattle.lookup_numbers.specs.Told.{counters_in, tally_of}
 use Rattle.images.specs.Promises.{ReadAs}
-use Rattle.images.proofs.OnImages.{on_image_refused, on_image_accepted, on_image_valid}
+use Rattle.images.proofs.OnImages.{on_image_accepted, on_image_valid}
 use Rattle.image_lookups.specs.Promises.{CopiesLeft, outcome_of, counted_by, copied_by, CopiedOne, rows_for, counted_for, CopiedMany}
 use Rattle.image_lookups.proofs.CopiedRows.{answered_arrays, row_in_answered}
 
@@ -35,21 +33,7 @@ answered_by u t t' w w' c r a e f g =
     (f ∙ sym (append_snoc (r.refusal ∷ r.owners) r.probes (drop 10 w)) ∙ ap (λ row. row ++ drop 10 w) (row_in_answered u c r a))
 
 module _ (xs : List ℕ) (block k : ℕ) (t w : List ℕ) where
-  pub one_tally : length t < 2 → CopiedOne xs block k t w (record { number = 17; tally = t; rows = w })
-  one_tally h = record { no_tally = λ l. refl; no_row = λ l. refl; room = λ l m. absurd (omega (arith, h, l)) }
-
-  pub one_row : length w < 10 → CopiedOne xs block k t w (record { number = 17; tally = t; rows = w })
-  one_row h = record { no_tally = λ l. refl; no_row = λ l. refl; room = λ l m. absurd (omega (arith, h, m)) }
-
   module _ (made : PoolAnswer) (i : ReadAs xs made) (l : 2 ≤ length t) (m : 10 ≤ length w) where
-    pub one_refused : (w' : List ℕ) → 0 < made.refusal → w' ≡ made.refusal ∷ replicate 9 0 ++ drop 10 w
-        → CopiedOne xs block k t w (record { number = made.refusal; tally = t; rows = w' })
-    one_refused w' z e = record {
-      no_tally = λ h. absurd (omega (arith, h, l));
-      no_row = λ h. absurd (omega (arith, h, m));
-      room = λ p q. on_image_refused xs _ _ _ made i z (left_same refl refl e);
-    }
-
     pub one_copied : (c : Counters) (r : CopiesAnswer) (t' w' : List ℕ) → made.refusal ≤ 0 → c ≡ counters_in t
         → CopiedIn made.pool.starts made.pool.owners made.pool.intervals made.pool.devices made.pool.range block k c r
         → w' ≡ r.refusal ∷ r.owners ++ r.probes ∷ drop 10 w → t' ≡ tally_of r.counters t
@@ -65,20 +49,7 @@ module _ (xs : List ℕ) (block k : ℕ) (t w : List ℕ) where
 -- ---- many blocks
 
 module _ (xs bs : List ℕ) (k : ℕ) (t w : List ℕ) where
-  pub many_tally : length t < 2 → CopiedMany xs bs k t w (record { number = 17; tally = t; rows = w })
-  many_tally h = record { no_tally = λ l. refl; no_rows = λ l. refl; room = λ l m. absurd (omega (arith, h, l)) }
-
-  pub many_rows : length w / 10 < length bs → CopiedMany xs bs k t w (record { number = 17; tally = t; rows = w })
-  many_rows h = record { no_tally = λ l. refl; no_rows = λ l. refl; room = λ l m. absurd (omega (arith, h, m)) }
-
   module _ (made : PoolAnswer) (i : ReadAs xs made) (l : 2 ≤ length t) (m : length bs ≤ length w / 10) where
-    pub many_refused : 0 < made.refusal → CopiedMany xs bs k t w (record { number = made.refusal; tally = t; rows = w })
-    many_refused z = record {
-      no_tally = λ h. absurd (omega (arith, h, l));
-      no_rows = λ h. absurd (omega (arith, h, m));
-      room = λ p q. on_image_refused xs _ _ _ made i z refl;
-    }
-
     pub many_copied : (c c' : Counters) (t' w' : List ℕ) → made.refusal ≤ 0 → c ≡ counters_in t → c' ≡ counted_for (state_of made.pool) k bs c
         → w' ≡ rows_for (state_of made.pool) k bs ++ drop (10 * length bs) w → t' ≡ tally_of c' t
         → CopiedMany xs bs k t w (record { number = 0; tally = t'; rows = w' })

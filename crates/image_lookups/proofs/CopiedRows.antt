@@ -4,13 +4,13 @@
 --   Many s k bs before c rows after i     the rows and the counters of the first i blocks of bs
 --
 -- answered_arrays (the answer for a block, from what is promised of the arrays of a valid pool); row_in_answered
--- Many: many_none, many_room, many_more, many_all
+-- Many: many_more, many_all
 use mathlib.Core.Path.{◌≡◌, refl, sym, ap, ◌∙◌, subst}
 use mathlib.Core.List.{List, [], ◌∷◌, ◌++◌, append_assoc, append-nil}
 use Prim.Native.Nat.{ℕ, ◌+◌, ◌*◌, ◌-◌, ◌≤◌, ◌<◌}
 use native.Mathlib.Numerals.{add-one}
 use native.Mathlib.Omega.{arith}
-use lib.ListN.{length, get_or, take, drop, length-append, length-take, length-drop}
+use lib.ListN.{length, get_or, take, drop, length-append}
 use lib.Seq.{take_all, take-suc, append_snoc}
 use borrow.Rule.Slice.PartMut.{same_len_mid}
 use Rattle.slicing.specs.Changes.{State}
@@ -64,9 +64,6 @@ pub record Many (s : State) (k : ℕ) (bs before : List ℕ) (c : Counters) (row
   pub written : rows ≡ rows_for s k (take i bs) ++ drop (10 * i) before
   pub counted : after ≡ counted_for s k (take i bs) c
 
-pub many_none : (s : State) (k : ℕ) (bs before : List ℕ) (c : Counters) → Many s k bs before c before c 0
-many_none s k bs before c = record { passed = omega arith; size = refl; done = refl; written = refl; counted = refl }
-
 module _ (s : State) (k : ℕ) (bs before : List ℕ) (c : Counters) (rows : List ℕ) (after : Counters) (i : ℕ) (m : Many s k bs before c rows after i) where
   pub many_all : length bs ≤ i → (rows ≡ rows_for s k bs ++ drop (10 * length bs) before) × (after ≡ counted_for s k bs c)
   many_all h =
@@ -75,9 +72,6 @@ module _ (s : State) (k : ℕ) (bs before : List ℕ) (c : Counters) (rows : Lis
       (rw (f, e) at m.written, rw f at m.counted)
 
   module _ (h : i < length bs) (room : 10 * length bs ≤ length before) where
-    pub many_room : 10 ≤ length (take (length rows - 10 * i) (drop (10 * i) rows))
-    many_room = omega (arith, length-take (length rows - 10 * i) (drop (10 * i) rows), length-drop (10 * i) rows, m.size)
-
     module _ (r : CopiesAnswer) (l : length r.owners ≡ 8) (a : Answered (outcome_of s k (get_or bs i 0)) after r) where
       one_more : take (i + 1) bs ≡ take i bs ++ get_or bs i 0 ∷ []
       one_more = rw (add-one i) (take-suc bs i 0 h)

@@ -1,12 +1,12 @@
 -- The call for the owner of a point: what it leaves, from what the calls beneath it answered.
 --
 -- found_state (an owner looked up in the arrays of a valid pool is the state's)
--- owned_short (no place for the answer), owned_refused (a refused image), owned_told (what the lookup answers)
-use mathlib.Core.Path.{◌≡◌, refl, sym, ap, ◌∙◌}
-use mathlib.Core.List.{List, ◌∷◌}
-use Prim.Native.Nat.{ℕ, ◌≤◌, ◌<◌}
+-- owned_told (what the lookup answers)
+use mathlib.Core.Path.{◌≡◌, sym, ap, ◌∙◌}
+use mathlib.Core.List.{List}
+use Prim.Native.Nat.{ℕ, ◌≤◌}
 use native.Mathlib.Omega.{arith}
-use lib.ListN.{length, drop}
+use lib.ListN.{length}
 use Rattle.slicing.specs.Runs.{owner_at}
 use Rattle.slicing_core.proofs.Rows.{length_device_rows}
 use Rattle.pools.specs.Pools.{state_of, ValidPool}
@@ -17,7 +17,7 @@ use Rattle.lookups.specs.declared.OwnerAnswer.{OwnerAnswer}
 use Rattle.lookups.proofs.Promised.{looked_in}
 use Rattle.lookup_numbers.specs.Told.{owner_told}
 use Rattle.images.specs.Promises.{ReadAs}
-use Rattle.images.proofs.OnImages.{on_image_refused, on_image_accepted, on_image_valid}
+use Rattle.images.proofs.OnImages.{on_image_accepted, on_image_valid}
 use Rattle.answers.specs.Answers.{Answer}
 use Rattle.image_lookups.specs.Promises.{Owned}
 
@@ -34,16 +34,7 @@ found_state p x w v h =
     ∙ ap (λ (n : ℕ). owner_answer p.range n x (owner_at (state_of p).table x)) (sym (length_device_rows p.ids p.capacities 0 p.devices))
 
 module _ (xs : List ℕ) (x : ℕ) (a : List ℕ) where
-  pub owned_short : length a < 1 → Owned xs x a (record { number = 17; places = a })
-  owned_short h = record { short = λ k. refl; room = λ k. absurd (omega (arith, h, k)) }
-
   module _ (made : PoolAnswer) (i : ReadAs xs made) (l : 1 ≤ length a) where
-    pub owned_refused : (a' : List ℕ) → 0 < made.refusal → a' ≡ 0 ∷ drop 1 a → Owned xs x a (record { number = made.refusal; places = a' })
-    owned_refused a' z e = record {
-      short = λ h. absurd (omega (arith, l, h));
-      room = λ h. on_image_refused xs _ _ _ made i z (rw e);
-    }
-
     pub owned_told : (w : OwnerAnswer) (r : Answer) → made.refusal ≤ 0 → Found made.pool x w → r ≡ owner_told a w → Owned xs x a r
     owned_told w r z h e = record {
       short = λ k. absurd (omega (arith, l, k));

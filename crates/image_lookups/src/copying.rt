@@ -16,24 +16,19 @@ use slicing::SHORT_BUFFER;
 pub fn copies(image: &[u8], block: u64, k: u64, tally: &mut [u32], row: &mut [u32]) -> u32
     ensures { CopiedOne image.now block k tally.old row.old (record { number = result; tally = tally.new; rows = row.new }) }
 {
-    if tally.len() < 2 {
-        return SHORT_BUFFER;
-    }
-    if row.len() < ROW {
+    if tally.len() < 2 || row.len() < ROW {
         return SHORT_BUFFER;
     }
     let made = images::read(image);
     if made.refusal > 0 {
-        put_refusal(&mut *row, made.refusal);
+        put_refusal(row, made.refusal);
         return made.refusal;
     }
     let pool = made.pool;
-    let starts = pool.starts;
-    let owners = pool.owners;
     let counters = counters_of(tally);
     let answer = copies_in(
-        &starts,
-        &owners,
+        &pool.starts,
+        &pool.owners,
         pool.intervals,
         pool.devices,
         pool.range,
@@ -41,9 +36,8 @@ pub fn copies(image: &[u8], block: u64, k: u64, tally: &mut [u32], row: &mut [u3
         k,
         counters,
     );
-    let after = answer.counters;
-    put_row(&mut *row, answer);
-    put_counters(&mut *tally, after);
+    put_row(row, answer);
+    put_counters(tally, answer.counters);
     answer.refusal
 }
 
@@ -53,25 +47,20 @@ fn copy_many(pool: Pool, blocks: &[u64], k: u64, counters: Counters, rows: &mut 
     ensures value { result ≡ counted_for (state_of pool) k blocks.now counters }
     ensures rows { rows.new ≡ rows_for (state_of pool) k blocks.now ++ drop (10 * length blocks.now) rows.old }
 {
-    let starts = pool.starts;
-    let owners = pool.owners;
     let mut after = counters;
-    let mut i = 0;
-    while i < blocks.len() {
+    for (i, block) in blocks.iter().enumerate() {
         let answer = copies_in(
-            &starts,
-            &owners,
+            &pool.starts,
+            &pool.owners,
             pool.intervals,
             pool.devices,
             pool.range,
-            blocks[i],
+            *block,
             k,
             after,
         );
-        let place = ROW * i;
-        put_row(&mut rows[place..], answer);
+        put_row(&mut rows[ROW * i..], answer);
         after = answer.counters;
-        i += 1;
     }
     after
 }
@@ -88,19 +77,14 @@ pub fn copies_of_many(
 ) -> u32
     ensures { CopiedMany image.now blocks.now k tally.old rows.old (record { number = result; tally = tally.new; rows = rows.new }) }
 {
-    if tally.len() < 2 {
-        return SHORT_BUFFER;
-    }
-    if rows.len() / ROW < blocks.len() {
+    if tally.len() < 2 || rows.len() / ROW < blocks.len() {
         return SHORT_BUFFER;
     }
     let made = images::read(image);
     if made.refusal > 0 {
         return made.refusal;
     }
-    let pool = made.pool;
-    let counters = counters_of(tally);
-    let after = copy_many(pool, blocks, k, counters, &mut *rows);
-    put_counters(&mut *tally, after);
+    let after = copy_many(made.pool, blocks, k, counters_of(tally), rows);
+    put_counters(tally, after);
     0
 }

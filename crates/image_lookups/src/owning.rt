@@ -12,24 +12,22 @@ use slicing::SHORT_BUFFER;
 pub fn owner(image: &[u8], point: u64, answer: &mut [u64]) -> u32
     ensures { Owned image.now point answer.old (record { number = result; places = answer.new }) }
 {
-    if answer.len() < 1 {
+    if answer.is_empty() {
         return SHORT_BUFFER;
     }
     let made = images::read(image);
     if made.refusal > 0 {
-        put1(&mut *answer, 0);
+        put1(answer, 0);
         return made.refusal;
     }
     let pool = made.pool;
-    let starts = pool.starts;
-    let owners = pool.owners;
     let found = owner_in(
-        &starts,
-        &owners,
+        &pool.starts,
+        &pool.owners,
         pool.intervals,
         pool.devices,
         pool.range,
         point,
     );
-    put_owner(&mut *answer, found)
+    put_owner(answer, found)
 }

@@ -1,36 +1,31 @@
--- Laws of the probing for copies: what the loops of `chosen` and `probe_owners` need.
+-- Laws of the probing for copies: what `chosen` and the loop of `probe_owners` need.
 --
 --   Probing s o n R block k list found t     after t probes, fewer than k owners are chosen: they stand in the list, then zeros, and the
 --                                            probing from there on is the whole probing
 --
--- member: member_here, member_next, member_end (an owner among those from a place on)
+-- member: any_member (an element that equals an owner)
 -- choose_from: choose_from_again, choose_from_last, choose_from_more, choose_from_end (one probe, and none left)
--- Probing: probing_start, probing_size, probing_again, probing_more; probing_end, probing_last (the answer)
-use mathlib.Core.Path.{◌≡◌, refl, sym, ap, ◌∙◌}
+-- Probing: probing_start, probing_again, probing_more; probing_end, probing_last (the answer)
+use mathlib.Core.Path.{◌≡◌, refl, sym, ◌∙◌}
 use mathlib.Core.Bool.{Bool, true, false}
 use mathlib.Core.List.{List, [], ◌∷◌, ◌++◌}
 use Prim.Native.Nat.{ℕ, suc, ◌+◌, ◌-◌, ◌≤◌, ◌<◌}
 use native.Mathlib.Omega.{arith}
 use native.Mathlib.Numerals.{add-one}
-use lib.ListN.{length, take, set, replicate, length-append, length-take, length-replicate, drop_of_length-le}
-use lib.Seq.{slice, slice-cons, append_snoc, take_at, set_at}
-use borrow.Author.Tests.{eq-eqb, ne_eqb, le-leb, lt-leb}
-use Rattle.slicing_core.specs.Rows.{at}
+use lib.Dec.{eqb}
+use lib.ListN.{length, take, set, replicate, length-append}
+use lib.Seq.{append_snoc, take_at, set_at}
+use borrow.Author.Tests.{le-leb, lt-leb}
+use Rattle.std.specs.List.{list_any}
+use Rattle.slicing.proofs.Counting.{eqb_sym}
 use Rattle.lookup_core.specs.Probes.{member, choose_from, choose}
 use Rattle.lookup_core.specs.Probing.{ProbesAnswered, owner_of}
 
 -- ---- member
 
-module _ (d : ℕ) (xs : List ℕ) (i n : ℕ) where
-  module _ (h : i < n) (l : n ≤ length xs) where
-    pub member_here : d ≡ at xs i → member d (slice i n xs) ≡ true
-    member_here e = rw (slice-cons i n xs 0 h l, eq-eqb d (at xs i) e)
-
-    pub member_next : (d ≡ at xs i → ⊥) → member d (slice i n xs) ≡ member d (slice (i + 1) n xs)
-    member_next e = rw (slice-cons i n xs 0 h l, ne_eqb d (at xs i) e, add-one i)
-
-  pub member_end : n ≤ i → member d (slice i n xs) ≡ false
-  member_end h = ap (member d) (drop_of_length-le (take n xs) {i = i} (omega (arith, length-take n xs)))
+pub any_member : (d : ℕ) (xs : List ℕ) → list_any (λ y. eqb y d) xs ≡ member d xs
+any_member d [] = refl
+any_member d (e ∷ xs) = rw (eqb_sym e d, any_member d xs)
 
 -- ---- choose_from
 
@@ -76,12 +71,6 @@ module _ (s os : List ℕ) (n R block k : ℕ) where
   answered list cs found t e written count most = record { owners = rw e written; found = rw e (sym count); probes = rw e; most = most }
 
   module _ (list : List ℕ) (found t : ℕ) (w : Probing list found t) where
-    pub probing_size : length list ≡ 8
-    probing_size =
-        let zeros : List ℕ = replicate (8 - found) 0 in
-        let long : length zeros ≡ 8 - found = length-replicate (8 - found) 0 in
-        ap length w.written ∙ length-append w.owners zeros ∙ omega arith
-
     pub probing_end : 256 ≤ t → ProbesAnswered s os n R block k (record { owners = list; found = found; probes = 256 })
     probing_end h =
         let e : t ≡ 256 = omega (arith, w.passed) in

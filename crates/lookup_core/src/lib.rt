@@ -15,20 +15,6 @@ pub const PROBES: u32 = 256;
 // The numbers of 32 bits.
 const WORDS: u64 = 4294967296;
 
-// A start that was read, as a point.
-fn wide_start(x: u32) -> u64
-    ensures { result ≡ x }
-{
-    x as u64
-}
-
-// An owner that was read, as a number that fits a u16.
-fn wide_owner(x: u16) -> u64
-    ensures { (result ≡ x) × (result < 65536) }
-{
-    x as u64
-}
-
 // The place among n starts that holds a point: the last start that is not above it.
 fn place(starts: &[u32; MAX_INTERVALS], n: usize, point: u64) -> usize
     requires { (1 ≤ n) × (n ≤ 4096) }
@@ -36,9 +22,11 @@ fn place(starts: &[u32; MAX_INTERVALS], n: usize, point: u64) -> usize
 {
     let mut lo = 0;
     let mut hi = n;
+    // A while: `owner_found` promises where this search ends in numbers of any order, and `partition_point` promises
+    // its result of sorted ones alone.
     while lo + 1 < hi {
         let middle = (lo + hi) / 2;
-        if wide_start(starts[middle]) <= point {
+        if u64::from(starts[middle]) <= point {
             lo = middle;
         } else {
             hi = middle;
@@ -57,15 +45,12 @@ pub fn owner_found<'a>(
     ensures value { result ≡ owner_found starts.now owners.now (clamped n) point }
     ensures upper_bound { result < 65536 }
 {
-    let mut most = n;
-    if n > MAX_INTERVALS {
-        most = MAX_INTERVALS;
-    }
+    let most = n.min(MAX_INTERVALS);
     if most == 0 {
         return 0;
     }
     let i = place(starts, most, point);
-    wide_owner(owners[i])
+    u64::from(owners[i])
 }
 
 // The point of a probe: the first word of the digest of block and probe, scaled to the range.
@@ -73,7 +58,7 @@ pub fn probe_point(block: u64, probe: u32, range: u64) -> u64
     requires { range ≤ 4294967296 }
     ensures { result ≡ point_of block probe range }
 {
-    let h = sha1_digest::first_word(block, probe) as u64;
+    let h = u64::from(sha1_digest::first_word(block, probe));
     h * range / WORDS
 }
 
@@ -82,14 +67,7 @@ fn chosen(owners: &[u16; 8], n: usize, owner: u16) -> bool
     requires { (n ≤ 8) × (length owners.now ≡ 8) }
     ensures { result ≡ member owner (take n owners.now) }
 {
-    let mut i = 0;
-    while i < n {
-        if owners[i] == owner {
-            return true;
-        }
-        i += 1;
-    }
-    false
+    owners[..n].contains(&owner)
 }
 
 // The owners chosen, in order and then zeros; how many; and the probes made.
@@ -114,25 +92,23 @@ pub fn probe_owners<'a>(
 {
     let mut list = [0u16; 8];
     let mut found = 0;
-    let mut t = 0;
-    while t < PROBES {
+    for t in 0..PROBES {
         let owner = owner_found(starts, owners, n, probe_point(block, t, range)) as u16;
-        t += 1;
         if !chosen(&list, found, owner) {
             list[found] = owner;
             found += 1;
             if found == k {
                 return ProbeAnswer {
                     owners: list,
-                    found: found,
-                    probes: t,
+                    found,
+                    probes: t + 1,
                 };
             }
         }
     }
     ProbeAnswer {
         owners: list,
-        found: found,
+        found,
         probes: PROBES,
     }
 }

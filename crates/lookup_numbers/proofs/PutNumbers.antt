@@ -1,7 +1,5 @@
 -- Numbers put into their places.
 --
--- told_owner, told_none (an owner, or none)
--- put_two (the first two numbers)
 -- owners_put (an owner more), owners_all (all eight)
 -- put_row (a row of ten numbers), put_zeros (the row of a refusal)
 use mathlib.Core.Path.{◌≡◌, refl, sym, ap, ◌∙◌}
@@ -11,22 +9,6 @@ use native.Mathlib.Numerals.{add-one}
 use native.Mathlib.Omega.{arith}
 use lib.ListN.{length, set, get_or, take, drop, replicate}
 use lib.Seq.{take_all, drop-cons, set_at, paste, paste-suc}
-use Rattle.lookups.specs.declared.OwnerAnswer.{OwnerAnswer}
-use Rattle.lookups.specs.declared.OwnerAnswer.TheVariants.{Owner, Refused}
-use Rattle.lookup_numbers.specs.Told.{owner_told}
-
-module _ (a : List ℕ) (w : OwnerAnswer) where
-  pub told_owner : (d : ℕ) (a' : List ℕ) → w ≡ Owner d → a' ≡ d ∷ drop 1 a → record { number = 0; places = a' } ≡ owner_told a w
-  told_owner d a' e k = rw (e, k)
-
-  pub told_none : (n : ℕ) (a' : List ℕ) → w ≡ Refused n → a' ≡ 0 ∷ drop 1 a → record { number = n; places = a' } ≡ owner_told a w
-  told_none n a' e k = rw (e, k)
-
--- the first two numbers of a list
-pub put_two : (t : List ℕ) (a b : ℕ) → 2 ≤ length t → set (set t 0 a) 1 b ≡ a ∷ b ∷ drop 2 t
-put_two [] a b h = absurd (omega arith)
-put_two (x ∷ []) a b h = absurd (omega arith)
-put_two (x ∷ y ∷ t) a b h = refl
 
 pub owners_put : (before owners row : List ℕ) (i d : ℕ) → length owners ≡ 8 → 10 ≤ length before → i < 8 → d ≡ get_or owners i 0
     → row ≡ paste before 1 owners i → set row (i + 1) d ≡ paste before 1 owners (i + 1)

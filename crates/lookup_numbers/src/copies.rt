@@ -4,21 +4,13 @@ ghost use Rattle.lookup_numbers.specs.Told.{counters_in, tally_of};
 
 use lookups::{CopiesAnswer, Counters};
 
-fn wide16(x: u16) -> u32
-    ensures { result ≡ x }
-{
-    x as u32
-}
-
 // Puts eight owners behind the number of a row.
 fn put_owners(row: &mut [u32], owners: &[u16; 8])
     requires { (10 ≤ length row.old) × (length owners.now ≡ 8) }
     ensures { row.new ≡ take 1 row.old ++ owners.now ++ drop 9 row.old }
 {
-    let mut i = 0;
-    while i < 8 {
-        row[i + 1] = wide16(owners[i]);
-        i += 1;
+    for (i, owner) in owners.iter().enumerate() {
+        row[i + 1] = u32::from(*owner);
     }
 }
 
@@ -27,9 +19,8 @@ pub fn put_row(row: &mut [u32], answer: CopiesAnswer)
     requires { 10 ≤ length row.old }
     ensures { row.new ≡ answer.refusal ∷ answer.owners ++ answer.probes ∷ drop 10 row.old }
 {
-    let owners = answer.owners;
     row[0] = answer.refusal;
-    put_owners(&mut *row, &owners);
+    put_owners(row, &answer.owners);
     row[9] = answer.probes;
 }
 
@@ -38,9 +29,8 @@ pub fn put_refusal(row: &mut [u32], refusal: u32)
     requires { 10 ≤ length row.old }
     ensures { row.new ≡ refusal ∷ replicate 9 0 ++ drop 10 row.old }
 {
-    let owners = [0u16; 8];
     row[0] = refusal;
-    put_owners(&mut *row, &owners);
+    put_owners(row, &[0; 8]);
     row[9] = 0;
 }
 

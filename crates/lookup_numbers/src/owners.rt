@@ -12,11 +12,11 @@ pub fn put_owner(answer: &mut [u64], found: OwnerAnswer) -> u32
 {
     match found {
         OwnerAnswer::Owner(id) => {
-            put1(&mut *answer, id);
+            put1(answer, id);
             0
         }
         OwnerAnswer::Refused(refusal) => {
-            put1(&mut *answer, 0);
+            put1(answer, 0);
             refusal
         }
     }

@@ -4,9 +4,8 @@
 // nothing, take logarithmic time, and are safe for any contents.
 #![tactic(auto)]
 
-ghost use Rattle.std.specs.Prelude.{◌≡◌, ◌+◌, min, replicate};
+ghost use Rattle.std.specs.Prelude.{◌≡◌, replicate};
 ghost use Rattle.lookups.specs.Promises.{Located, Looked, LookedIn, Copied, CopiedIn};
-ghost use Rattle.lookups.specs.Counting.{most};
 
 use lookup_core::{PROBES, owner_found, probe_owners, probe_point};
 use pools::Pool;
@@ -30,7 +29,7 @@ pub enum PointAnswer {
 }
 
 // Accepted lookups of copies and their probes (document 01's tally). Both stay at 4,294,967,295.
-#[derive(Clone, Copy)]
+#[derive(Clone, Copy, Default)]
 pub struct Counters {
     pub lookups: u32,
     pub probes: u32,
@@ -41,10 +40,7 @@ impl Counters {
     pub fn new() -> Self
         ensures { (result.lookups ≡ 0) × (result.probes ≡ 0) }
     {
-        Self {
-            lookups: 0,
-            probes: 0,
-        }
+        Self::default()
     }
 }
 
@@ -63,23 +59,10 @@ pub struct CopiesAnswer {
 pub fn point(block: u64, probe: u64, range: u64) -> PointAnswer
     ensures { Located block probe range result }
 {
-    if probe > 255 {
-        return PointAnswer::Refused(OUTSIDE);
-    }
-    if range < 1 {
-        return PointAnswer::Refused(OUTSIDE);
-    }
-    if range > MAX_RANGE {
+    if probe > 255 || range < 1 || range > MAX_RANGE {
         return PointAnswer::Refused(OUTSIDE);
     }
     PointAnswer::Point(probe_point(block, probe as u32, range))
-}
-
-// x + y, but no more than 4,294,967,295.
-fn raised(x: u32, y: u32) -> u32
-    ensures { result ≡ min (x + y) most }
-{
-    if x <= u32::MAX - y { x + y } else { u32::MAX }
 }
 
 // The owner of a point, on the lent arrays of a pool: for callers that make many lookups. 13 where the
@@ -107,10 +90,10 @@ fn refused(refusal: u32, probes: u32, counters: Counters) -> CopiesAnswer
     ensures { (result.refusal ≡ refusal) × (result.owners ≡ replicate 8 0) × (result.probes ≡ probes) × (result.counters ≡ counters) }
 {
     CopiesAnswer {
-        refusal: refusal,
+        refusal,
         owners: [0; 8],
-        probes: probes,
-        counters: counters,
+        probes,
+        counters,
     }
 }
 
@@ -129,74 +112,28 @@ pub fn copies_in<'a>(
 ) -> CopiesAnswer
     ensures { CopiedIn starts.now owners.now intervals devices range block k counters result }
 {
-    if k < 1 {
-        return refused(COPIES_OUTSIDE, 0, counters);
-    }
-    if k > 8 {
+    if k < 1 || k > 8 {
         return refused(COPIES_OUTSIDE, 0, counters);
     }
     if devices == 0 {
         return refused(NO_DEVICE, 0, counters);
     }
-    let mut most = range;
-    if range > MAX_RANGE {
-        most = MAX_RANGE;
-    }
+    let most = range.min(MAX_RANGE);
     let probed = probe_owners(starts, owners, intervals, most, block, k as usize);
     if probed.found < k as usize {
         return refused(FEW_OWNERS, PROBES, counters);
     }
+    // A variable: a literal that takes the array straight from a field gets no proof.
     let list = probed.owners;
-    let after = Counters {
-        lookups: raised(counters.lookups, 1),
-        probes: raised(counters.probes, probed.probes),
-    };
     CopiesAnswer {
         refusal: 0,
         owners: list,
         probes: probed.probes,
-        counters: after,
+        counters: Counters {
+            lookups: counters.lookups.saturating_add(1),
+            probes: counters.probes.saturating_add(probed.probes),
+        },
     }
-}
-
-// The owner of a point, where the pool is valid.
-fn checked_owner(pool: Pool, point: u64) -> OwnerAnswer
-    ensures { Looked pool point result }
-{
-    if !valid(pool) {
-        return OwnerAnswer::Refused(OUTSIDE);
-    }
-    let starts = pool.starts;
-    let owners = pool.owners;
-    owner_in(
-        &starts,
-        &owners,
-        pool.intervals,
-        pool.devices,
-        pool.range,
-        point,
-    )
-}
-
-// The copies of a block, where the pool is valid.
-fn checked_copies(pool: Pool, block: u64, k: u64, counters: Counters) -> CopiesAnswer
-    ensures { Copied pool block k counters result }
-{
-    if !valid(pool) {
-        return refused(OUTSIDE, 0, counters);
-    }
-    let starts = pool.starts;
-    let owners = pool.owners;
-    copies_in(
-        &starts,
-        &owners,
-        pool.intervals,
-        pool.devices,
-        pool.range,
-        block,
-        k,
-        counters,
-    )
 }
 
 // The owner of a point. 2 for a pool that is not valid; 13 where the point is at or above the range, then
@@ -204,7 +141,17 @@ fn checked_copies(pool: Pool, block: u64, k: u64, counters: Counters) -> CopiesA
 pub fn owner(pool: &Pool, point: u64) -> OwnerAnswer
     ensures { Looked pool.now point result }
 {
-    checked_owner(*pool, point)
+    if !valid(*pool) {
+        return OwnerAnswer::Refused(OUTSIDE);
+    }
+    owner_in(
+        &pool.starts,
+        &pool.owners,
+        pool.intervals,
+        pool.devices,
+        pool.range,
+        point,
+    )
 }
 
 // The k devices that hold the copies of a block. 2 for a pool that is not valid; 11 where k is not within
@@ -213,7 +160,19 @@ pub fn owner(pool: &Pool, point: u64) -> OwnerAnswer
 pub fn copies(pool: &Pool, block: u64, k: u64, counters: Counters) -> CopiesAnswer
     ensures { Copied pool.now block k counters result }
 {
-    checked_copies(*pool, block, k, counters)
+    if !valid(*pool) {
+        return refused(OUTSIDE, 0, counters);
+    }
+    copies_in(
+        &pool.starts,
+        &pool.owners,
+        pool.intervals,
+        pool.devices,
+        pool.range,
+        block,
+        k,
+        counters,
+    )
 }
 
 // The owner of a point, of a pool by value, which it lends to `owner`.

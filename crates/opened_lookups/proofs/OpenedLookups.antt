@@ -1,12 +1,11 @@
 -- Lookups on the arrays of an opened pool: what they leave, and that on what opening left they answer as the calls on the image do.
 --
--- owned_in_short, owned_in_told (the owner of a point)
--- one_in_tally, one_in_row, one_in_copied (the copies of a block)
+-- owned_in_told (the owner of a point), one_in_copied (the copies of a block)
 -- on an opened pool: opened_image, opened_answer, opened_outcome, opened_owned, opened_copied
 use mathlib.Core.Path.{◌≡◌, refl, ap, ◌∙◌}
 use mathlib.Core.Bool.{Bool, true, false}
 use mathlib.Core.List.{List, [], ◌∷◌, ◌++◌}
-use Prim.Native.Nat.{ℕ, ◌-◌, ◌≤◌, ◌<◌, min}
+use Prim.Native.Nat.{ℕ, ◌-◌, ◌≤◌, min}
 use native.Mathlib.Omega.{arith}
 use lib.Dec.{ltb}
 use lib.ListN.{length, take, drop, replicate, length-append, length-replicate}
@@ -41,21 +40,12 @@ use Rattle.opened_lookups.specs.Promises.{OpenedMemory, opened_as, OpenedFrom, a
 -- ---- the owner of a point
 
 module _ (s o m : List ℕ) (x : ℕ) (a : List ℕ) where
-  pub owned_in_short : length a < 1 → OwnedIn s o m x a (record { number = 17; places = a })
-  owned_in_short h = record { short = λ k. refl; room = λ k. absurd (omega (arith, h, k)) }
-
   pub owned_in_told : 1 ≤ length a → (w : OwnerAnswer) (r : Answer) → LookedIn s o (at m 1) (at m 2) (at m 0) x w → r ≡ owner_told a w → OwnedIn s o m x a r
   owned_in_told l w r h e = record { short = λ k. absurd (omega (arith, l, k)); room = λ k. e ∙ ap (owner_told a) h.answer }
 
 -- ---- the copies of a block
 
 module _ (s o m : List ℕ) (block k : ℕ) (t w : List ℕ) where
-  pub one_in_tally : length t < 2 → CopiedOneIn s o m block k t w (record { number = 17; tally = t; rows = w })
-  one_in_tally h = record { no_tally = λ l. refl; no_row = λ l. refl; room = λ l j. absurd (omega (arith, h, l)) }
-
-  pub one_in_row : length w < 10 → CopiedOneIn s o m block k t w (record { number = 17; tally = t; rows = w })
-  one_in_row h = record { no_tally = λ l. refl; no_row = λ l. refl; room = λ l j. absurd (omega (arith, h, j)) }
-
   pub one_in_copied : 2 ≤ length t → 10 ≤ length w → (c : Counters) (r : CopiesAnswer) (t' w' : List ℕ) → c ≡ counters_in t
       → CopiedIn s o (at m 1) (at m 2) (at m 0) block k c r → w' ≡ r.refusal ∷ r.owners ++ r.probes ∷ drop 10 w → t' ≡ tally_of r.counters t
       → CopiedOneIn s o m block k t w (record { number = r.refusal; tally = t'; rows = w' })

@@ -2,32 +2,12 @@
 // The image is read and checked once; a lookup then decides nothing, and any contents of the arrays get an answer.
 #![tactic(auto)]
 
-ghost use Rattle.std.specs.Prelude.{◌≡◌, ◌++◌, ◌≤◌, length, drop};
 ghost use Rattle.opened_lookups.specs.Promises.{OpenedFrom, OwnedIn, CopiedOneIn};
 
 use answers::put3;
 use lookup_numbers::{ROW, counters_of, put_counters, put_owner, put_row};
 use lookups::{copies_in, owner_in};
 use slicing::{MAX_INTERVALS, SHORT_BUFFER};
-
-// Copies the arrays of a pool: the points where its intervals start, and the ids of their owners.
-fn copy_table(
-    points: &[u32; MAX_INTERVALS],
-    ids: &[u16; MAX_INTERVALS],
-    starts: &mut [u32],
-    owners: &mut [u16],
-)
-    requires { (length points.now ≡ 4096) × (length ids.now ≡ 4096) × (4096 ≤ length starts.old) × (4096 ≤ length owners.old) }
-    ensures starts { starts.new ≡ points.now ++ drop 4096 starts.old }
-    ensures owners { owners.new ≡ ids.now ++ drop 4096 owners.old }
-{
-    let mut i = 0;
-    while i < MAX_INTERVALS {
-        starts[i] = points[i];
-        owners[i] = ids[i];
-        i += 1;
-    }
-}
 
 // Opens an image: the first 4,096 places of `starts` and `owners` become the pool's own, unused ones 0; numbers:
 // range, intervals, devices. 17 where the arrays have under 4,096 places or the numbers under three,
@@ -36,26 +16,19 @@ pub fn open(image: &[u8], starts: &mut [u32], owners: &mut [u16], numbers: &mut 
     ensures { OpenedFrom image.now starts.old owners.old numbers.old
         (record { number = result; starts = starts.new; owners = owners.new; numbers = numbers.new }) }
 {
-    if starts.len() < MAX_INTERVALS {
-        return SHORT_BUFFER;
-    }
-    if owners.len() < MAX_INTERVALS {
-        return SHORT_BUFFER;
-    }
-    if numbers.len() < 3 {
+    if starts.len() < MAX_INTERVALS || owners.len() < MAX_INTERVALS || numbers.len() < 3 {
         return SHORT_BUFFER;
     }
     let made = images::read(image);
     if made.refusal > 0 {
-        put3(&mut *numbers, 0, 0, 0);
+        put3(numbers, 0, 0, 0);
         return made.refusal;
     }
     let pool = made.pool;
-    let points = pool.starts;
-    let ids = pool.owners;
-    copy_table(&points, &ids, &mut *starts, &mut *owners);
+    starts[..MAX_INTERVALS].copy_from_slice(&pool.starts);
+    owners[..MAX_INTERVALS].copy_from_slice(&pool.owners);
     put3(
-        &mut *numbers,
+        numbers,
         pool.range,
         pool.intervals as u64,
         pool.devices as u64,
@@ -75,7 +48,7 @@ pub fn opened_owner<'a>(
     ensures { OwnedIn starts.now owners.now numbers.now point answer.old
         (record { number = result; places = answer.new }) }
 {
-    if answer.len() < 1 {
+    if answer.is_empty() {
         return SHORT_BUFFER;
     }
     let found = owner_in(
@@ -86,7 +59,7 @@ pub fn opened_owner<'a>(
         numbers[0],
         point,
     );
-    put_owner(&mut *answer, found)
+    put_owner(answer, found)
 }
 
 // The copies of one block of an opened pool; tally and row as of `copies`. 17 where the tally has under
@@ -103,10 +76,7 @@ pub fn opened_copies<'a>(
     ensures { CopiedOneIn starts.now owners.now numbers.now block k tally.old row.old
         (record { number = result; tally = tally.new; rows = row.new }) }
 {
-    if tally.len() < 2 {
-        return SHORT_BUFFER;
-    }
-    if row.len() < ROW {
+    if tally.len() < 2 || row.len() < ROW {
         return SHORT_BUFFER;
     }
     let counters = counters_of(tally);
@@ -120,8 +90,7 @@ pub fn opened_copies<'a>(
         k,
         counters,
     );
-    let after = answer.counters;
-    put_row(&mut *row, answer);
-    put_counters(&mut *tally, after);
+    put_row(row, answer);
+    put_counters(tally, answer.counters);
     answer.refusal
 }

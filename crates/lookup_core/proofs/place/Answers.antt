@@ -7,8 +7,8 @@ pub loop-lo-init : goal.loop-lo-init
 loop-lo-init c =
     halved_all _ _ _ c.requires.0
 
-pub loop-lo-preserved-then-wide_start-point : goal.loop-lo-preserved-then-wide_start-point
-loop-lo-preserved-then-wide_start-point c =
+pub loop-lo-preserved-then-from-point : goal.loop-lo-preserved-then-from-point
+loop-lo-preserved-then-from-point c =
     halved_up _ _ _ _ _ c.loop-lo.invariant (omega (arith, c.loop-lo-test.true)) (omega arith)
 
 pub loop-lo-preserved : goal.loop-lo-preserved

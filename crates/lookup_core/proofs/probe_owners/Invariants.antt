@@ -1,13 +1,8 @@
 -- `lookup_core::probe_owners` meets its contract. The loop's invariant: the owners chosen stand in the list, then zeros, and the probing
 -- from probe `t` on is the whole probing.
-use Prim.Native.Nat.{◌-◌}
 use Rattle.lookup_core.proofs.ProbeSteps.{Probing}
 use Rattle.lookup_core.proofs.probe_owners.Given as goal
 
 abbrev pub invariant-loop-t : goal.invariant-loop-t
 invariant-loop-t l =
     Probing l.starts l.owners l.n l.range l.block l.k l.list l.found l.t
-
-abbrev pub decreases-loop-t : goal.decreases-loop-t
-decreases-loop-t l =
-    256 - l.t

@@ -1,31 +1,26 @@
 -- `opened_lookups::open` meets its contract.
-use Rattle.opened_lookups.proofs.OpenedPools.{opened_starts, opened_owners, opened_numbers, opened_refused, opened_stored}
+use mathlib.Core.Path.{◌≡◌, ap}
+use mathlib.Core.List.{◌++◌}
+use native.Mathlib.Omega.{arith}
+use lib.ListN.{length, drop, length-take}
+use borrow.Author.Rules.{rules}
+use Rattle.opened_lookups.proofs.OpenedPools.{opened_stored}
 use Rattle.opened_lookups.proofs.open.Goals as goal
 
-pub returns-then-starts-lt-MAX_INTERVALS : goal.returns-then-starts-lt-MAX_INTERVALS
-returns-then-starts-lt-MAX_INTERVALS c =
-    let a = c.args in
-    opened_starts a.image.now a.starts.now a.owners.now a.numbers.now c.if-starts-lt-MAX_INTERVALS.true
+pub copy_from_slice-requires : goal.copy_from_slice-requires
+copy_from_slice-requires c =
+    let l : length c.read-made.result.pool.starts ≡ 4096 = search rules in
+    omega (arith, length-take 4096 c.args.starts.now)
 
-pub returns-then-owners-lt-MAX_INTERVALS : goal.returns-then-owners-lt-MAX_INTERVALS
-returns-then-owners-lt-MAX_INTERVALS c =
-    let a = c.args in
-    opened_owners a.image.now a.starts.now a.owners.now a.numbers.now c.if-owners-lt-MAX_INTERVALS.true
-
-pub returns-then-numbers-lt3 : goal.returns-then-numbers-lt3
-returns-then-numbers-lt3 c =
-    let a = c.args in
-    opened_numbers a.image.now a.starts.now a.owners.now a.numbers.now c.if-numbers-lt3.true
-
-pub returns-then-made-gt0 : goal.returns-then-made-gt0
-returns-then-made-gt0 c =
-    let a = c.args in
-    opened_refused a.image.now a.starts.now a.owners.now a.numbers.now c.read-made.result c.read-made.ensures
-    c.if-starts-lt-MAX_INTERVALS.false c.if-owners-lt-MAX_INTERVALS.false c.if-numbers-lt3.false _ c.if-made-gt0.true c.put3.ensures
+pub copy_from_slice-requires-2 : goal.copy_from_slice-requires-2
+copy_from_slice-requires-2 c =
+    let l : length c.read-made.result.pool.owners ≡ 4096 = search rules in
+    omega (arith, length-take 4096 c.args.owners.now)
 
 pub returns : goal.returns
 returns c =
     let a = c.args in
     opened_stored a.image.now a.starts.now a.owners.now a.numbers.now c.read-made.result c.read-made.ensures
     c.if-starts-lt-MAX_INTERVALS.false c.if-owners-lt-MAX_INTERVALS.false c.if-numbers-lt3.false _ _ _ c.if-made-gt0.false
-    c.copy_table.ensures.starts c.copy_table.ensures.owners c.put3-2.ensures
+    (ap (λ ys. ys ++ drop 4096 a.starts.now) c.copy_from_slice.ensures.after) (ap (λ ys. ys ++ drop 4096 a.owners.now) c.copy_from_slice-2.ensures.after)
+    c.put3-2.ensures

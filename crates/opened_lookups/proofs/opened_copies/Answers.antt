@@ -1,16 +1,6 @@
 -- `opened_lookups::opened_copies` meets its contract.
-use Rattle.opened_lookups.proofs.OpenedLookups.{one_in_tally, one_in_row, one_in_copied}
+use Rattle.opened_lookups.proofs.OpenedLookups.{one_in_copied}
 use Rattle.opened_lookups.proofs.opened_copies.Goals as goal
-
-pub returns-then-tally-lt2 : goal.returns-then-tally-lt2
-returns-then-tally-lt2 c =
-    let a = c.args in
-    one_in_tally a.starts.now a.owners.now a.numbers.now a.block a.k a.tally.now a.row.now c.if-tally-lt2.true
-
-pub returns-then-row-lt-ROW : goal.returns-then-row-lt-ROW
-returns-then-row-lt-ROW c =
-    let a = c.args in
-    one_in_row a.starts.now a.owners.now a.numbers.now a.block a.k a.tally.now a.row.now c.if-row-lt-ROW.true
 
 pub returns : goal.returns
 returns c =

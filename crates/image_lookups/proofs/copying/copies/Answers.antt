@@ -1,19 +1,6 @@
 -- `image_lookups::copying::copies` meets its contract.
-use Rattle.image_lookups.proofs.CopiedCalls.{one_tally, one_row, one_refused, one_copied}
+use Rattle.image_lookups.proofs.CopiedCalls.{one_copied}
 use Rattle.image_lookups.proofs.copying.copies.Goals as goal
-
-pub returns-then-tally-lt2 : goal.returns-then-tally-lt2
-returns-then-tally-lt2 c =
-    one_tally c.args.image.now c.args.block c.args.k c.args.tally.now c.args.row.now c.if-tally-lt2.true
-
-pub returns-then-row-lt-ROW : goal.returns-then-row-lt-ROW
-returns-then-row-lt-ROW c =
-    one_row c.args.image.now c.args.block c.args.k c.args.tally.now c.args.row.now c.if-row-lt-ROW.true
-
-pub returns-then-made-gt0 : goal.returns-then-made-gt0
-returns-then-made-gt0 c =
-    one_refused c.args.image.now c.args.block c.args.k c.args.tally.now c.args.row.now c.read-made.result c.read-made.ensures
-    c.if-tally-lt2.false c.if-row-lt-ROW.false _ c.if-made-gt0.true c.put_refusal.ensures
 
 pub returns : goal.returns
 returns c =

@@ -3,17 +3,8 @@ use mathlib.Core.Path.{◌≡◌}
 use lib.ListN.{length, get_or}
 use borrow.Author.Rules.{rules}
 use Rattle.pools.specs.Pools.{state_of}
-use Rattle.image_lookups.proofs.CopiedRows.{answered_arrays, many_none, many_room, many_more, many_all}
+use Rattle.image_lookups.proofs.CopiedRows.{answered_arrays, many_more, many_all}
 use Rattle.image_lookups.proofs.copying.copy_many.Goals as goal
-
-pub loop-i-init : goal.loop-i-init
-loop-i-init c =
-    many_none _ _ _ _ _
-
-pub put_row-requires : goal.put_row-requires
-put_row-requires c =
-    let l = c.loop-i in
-    many_room (state_of c.args.pool) c.args.k c.args.blocks.now c.args.rows.now c.args.counters l.rows l.after l.i l.invariant c.loop-i-test.true c.requires.1
 
 pub loop-i-preserved : goal.loop-i-preserved
 loop-i-preserved c =

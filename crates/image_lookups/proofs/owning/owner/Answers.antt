@@ -1,17 +1,15 @@
 -- `image_lookups::owning::owner` meets its contract.
-use Rattle.image_lookups.proofs.ToldOwners.{owned_short, owned_refused, owned_told}
+use mathlib.Core.Path.{sym, ◌∙◌}
+use Prim.Native.Nat.{◌≤◌}
+use native.Mathlib.Omega.{arith}
+use lib.ListN.{length}
+use borrow.Author.Tests.{eqb-false}
+use Rattle.image_lookups.proofs.ToldOwners.{owned_told}
 use Rattle.image_lookups.proofs.owning.owner.Goals as goal
-
-pub returns-then-answer-lt1 : goal.returns-then-answer-lt1
-returns-then-answer-lt1 c =
-    owned_short c.args.image.now c.args.point c.args.answer.now c.if-answer-lt1.true
-
-pub returns-then-made-gt0 : goal.returns-then-made-gt0
-returns-then-made-gt0 c =
-    owned_refused c.args.image.now c.args.point c.args.answer.now c.read-made.result c.read-made.ensures c.if-answer-lt1.false _
-    c.if-made-gt0.true c.put1.ensures
 
 pub returns : goal.returns
 returns c =
-    owned_told c.args.image.now c.args.point c.args.answer.now c.read-made.result c.read-made.ensures c.if-answer-lt1.false
+    let a = c.args in
+    let l : 1 ≤ length a.answer.now = omega (arith, eqb-false (length a.answer.now) 0 (sym c.is_empty.ensures ∙ c.if-is_empty.false)) in
+    owned_told a.image.now a.point a.answer.now c.read-made.result c.read-made.ensures l
     c.owner_in-found.result _ c.if-made-gt0.false c.owner_in-found.ensures c.put_owner.ensures

@@ -1,14 +1,8 @@
 -- `lookup_numbers::copies::put_owners` meets its contract. The loop's invariant: the first i owners are put, and the rest is as it was.
 use mathlib.Core.Path.{◌≡◌}
-use Prim.Native.Nat.{◌-◌, ◌≤◌}
-use lib.ListN.{length}
 use lib.Seq.{paste}
 use Rattle.lookup_numbers.proofs.copies.put_owners.Given as goal
 
 abbrev pub invariant-loop-i : goal.invariant-loop-i
 invariant-loop-i l =
-    (l.i ≤ 8) × (length l.row ≡ length l.initial.row) × (l.row ≡ paste l.initial.row 1 l.owners l.i)
-
-abbrev pub decreases-loop-i : goal.decreases-loop-i
-decreases-loop-i l =
-    8 - l.i
+    l.row ≡ paste l.initial.row 1 l.owners l.i

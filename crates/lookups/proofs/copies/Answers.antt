@@ -1,6 +1,6 @@
--- `lookups::checked_copies` meets its contract: 2 first, then what is found in the arrays of a valid pool.
+-- `lookups::copies` meets its contract: 2 first, then what is found in the arrays of a valid pool.
 use Rattle.lookups.proofs.Promised.{copied_two, copied_in}
-use Rattle.lookups.proofs.checked_copies.Goals as goal
+use Rattle.lookups.proofs.copies.Goals as goal
 
 pub returns-then-not-valid : goal.returns-then-not-valid
 returns-then-not-valid c =
@@ -9,4 +9,4 @@ returns-then-not-valid c =
 pub returns : goal.returns
 returns c =
     let a = c.args in
-    copied_in a.pool (rw c.if-not-valid.false at c.valid.ensures) a.block a.k a.counters _ c.copies_in.ensures
+    copied_in a.pool.now (rw c.if-not-valid.false at c.valid.ensures) a.block a.k a.counters _ c.copies_in.ensures
