@@ -2,6 +2,7 @@
 --
 --   point_reply r, owner_reply r    document 01's number and value of an answer
 --   Located block t R r       r answers the call for the point of a probe
+--   TableOf t s o q n R       t is the table of these arrays and numbers
 --   LookedIn .., Looked p x r     r answers the call for the owner of a point, on arrays of any contents and on a pool
 --   CopiedIn .., Copied p ..      r answers the call for copies, on arrays of any contents and on a pool
 use Rattle.std.specs.Prelude.{◌≡◌, Bool, cond, ◌||◌, List, ℕ, min, eqb, leb, ltb}
@@ -20,6 +21,7 @@ use Rattle.lookups.specs.declared.Counters.{Counters}
 use Rattle.lookups.specs.declared.OwnerAnswer.{OwnerAnswer}
 use Rattle.lookups.specs.declared.OwnerAnswer.TheVariants.{Owner, Refused}
 use Rattle.lookups.specs.declared.PointAnswer.{PointAnswer}
+use Rattle.lookups.specs.declared.Table.{Table}
 
 -- ---- replies
 
@@ -41,6 +43,16 @@ probe_outside t R = ltb 255 t || outside max_range R
 pub record Located (block t R : ℕ) (r : PointAnswer) : Type 0 where
   pub answer : r ≡ cond (probe_outside t R) (PointAnswer.Refused 2) (PointAnswer.Point (point_of block t R))
   pub reply : point_reply r ≡ cond (probe_outside t R) (declined 2) (replied (point_of block t R))
+
+-- ---- a table
+
+-- lent starts s and owners o, q intervals, n devices, the range R
+pub record TableOf (t : Table) (s o : List ℕ) (q n R : ℕ) : Type 0 where
+  pub starts : t.columns.starts.now ≡ s
+  pub owners : t.columns.owners.now ≡ o
+  pub intervals : t.columns.intervals ≡ q
+  pub devices : t.devices ≡ n
+  pub range : t.range ≡ R
 
 -- ---- the owner of a point
 
