@@ -1,4 +1,4 @@
--- The outcomes of `lookups::point`, `owner`, `owner_of`, `owner_in`, `copies`, `copies_of` and `copies_in`. A lookup has the pool behind a shared
+-- The outcomes of `lookups::point`, `owner`, `owner_of`, `Table::owner`, `copies`, `copies_of` and `Table::copies`. A lookup has the pool behind a shared
 -- reference, or by value: it stays.
 --
 --   Fails n t c r            r answers the refusal n, eight zeros, t probes and the counters c as they were
@@ -6,11 +6,11 @@
 --   owners_of p block         who owns the point of each probe, by the table of a valid pool
 --   halved_in s o q R block   the same on arrays of any contents: the owner that halving finds
 -- point: point_late (2, a probe above 255), point_outside (2), point_inside
--- owner_in, on any contents: arrays_outside (13), arrays_none (10), arrays_owner
+-- Table::owner, on any contents: arrays_outside (13), arrays_none (10), arrays_owner
 -- owner: owner_invalid (2, a pool that is not valid), owner_outside (13), owner_none (10), owner_in (the owner of the interval that holds
--- the point, which is one: one_owner); owner_same (on the arrays of a valid pool owner_in answers as owner does)
+-- the point, which is one: one_owner); owner_same (on the arrays of a valid pool Table::owner answers as owner does)
 -- copies: copies_invalid (2), copies_outside (11), copies_none (10), copies_few (12), copies_found; copies_same (as owner_same)
--- copies_in, on any contents: lent_outside (11), lent_none (10), lent_few (12), lent_found
+-- Table::copies, on any contents: lent_outside (11), lent_none (10), lent_few (12), lent_found
 use mathlib.Core.Path.{◌≡◌, ap, ◌∙◌, sym}
 use mathlib.Core.List.{List, [], ◌∷◌, ◌++◌}
 use Prim.Native.Nat.{ℕ, ◌+◌, ◌-◌, ◌≤◌, ◌<◌, min}

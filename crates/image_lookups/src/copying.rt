@@ -5,7 +5,7 @@ ghost use Rattle.pools.specs.Pools.{state_of, ValidPool};
 ghost use Rattle.image_lookups.specs.Promises.{CopiedOne, CopiedMany, rows_for, counted_for};
 
 use lookup_numbers::{ROW, counters_of, put_counters, put_refusal, put_row};
-use lookups::{Counters, copies_in};
+use lookups::{Counters, Table};
 use pools::Pool;
 use slicing::SHORT_BUFFER;
 
@@ -24,18 +24,8 @@ pub fn copies(image: &[u8], block: u64, k: u64, tally: &mut [u32], row: &mut [u3
         put_refusal(row, made.refusal);
         return made.refusal;
     }
-    let pool = made.pool;
     let counters = counters_of(tally);
-    let answer = copies_in(
-        &pool.starts,
-        &pool.owners,
-        pool.intervals,
-        pool.devices,
-        pool.range,
-        block,
-        k,
-        counters,
-    );
+    let answer = Table::of(&made.pool).copies(block, k, counters);
     put_row(row, answer);
     put_counters(tally, answer.counters);
     answer.refusal
@@ -47,18 +37,10 @@ fn copy_many(pool: Pool, blocks: &[u64], k: u64, counters: Counters, rows: &mut 
     ensures value { result ≡ counted_for (state_of pool) k blocks.now counters }
     ensures rows { rows.new ≡ rows_for (state_of pool) k blocks.now ++ drop (10 * length blocks.now) rows.old }
 {
+    let table = Table::of(&pool);
     let mut after = counters;
     for (i, block) in blocks.iter().enumerate() {
-        let answer = copies_in(
-            &pool.starts,
-            &pool.owners,
-            pool.intervals,
-            pool.devices,
-            pool.range,
-            *block,
-            k,
-            after,
-        );
+        let answer = table.copies(*block, k, after);
         put_row(&mut rows[ROW * i..], answer);
         after = answer.counters;
     }

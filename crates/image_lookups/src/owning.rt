@@ -2,9 +2,9 @@
 // which decides nothing again.
 ghost use Rattle.image_lookups.specs.Promises.{Owned};
 
-use answers::put;
+use answers::put1;
 use lookup_numbers::put_owner;
-use lookups::owner_in;
+use lookups::Table;
 use slicing::SHORT_BUFFER;
 
 // The owner of a point; answer: its id. 14 to 16 as of a read; 13 where the point is at or above the
@@ -17,17 +17,9 @@ pub fn owner(image: &[u8], point: u64, answer: &mut [u64]) -> u32
     }
     let made = images::read(image);
     if made.refusal > 0 {
-        put(answer, [0]);
+        put1(answer, 0);
         return made.refusal;
     }
-    let pool = made.pool;
-    let found = owner_in(
-        &pool.starts,
-        &pool.owners,
-        pool.intervals,
-        pool.devices,
-        pool.range,
-        point,
-    );
+    let found = Table::of(&made.pool).owner(point);
     put_owner(answer, found)
 }

@@ -2,7 +2,7 @@
 ghost use Rattle.std.specs.Prelude.{◌≡◌, ◌≤◌, length};
 ghost use Rattle.lookup_numbers.specs.Told.{owner_told};
 
-use answers::put;
+use answers::put1;
 use lookups::OwnerAnswer;
 
 // Puts an owner, or 0 for a refusal, and gives the refusal number or 0.
@@ -12,11 +12,11 @@ pub fn put_owner(answer: &mut [u64], found: OwnerAnswer) -> u32
 {
     match found {
         OwnerAnswer::Owner(id) => {
-            put(answer, [id]);
+            put1(answer, id);
             0
         }
         OwnerAnswer::Refused(refusal) => {
-            put(answer, [0]);
+            put1(answer, 0);
             refusal
         }
     }

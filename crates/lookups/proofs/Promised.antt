@@ -1,6 +1,7 @@
 -- What is promised on a pool: from what is promised on its lent arrays, where it is valid, and where it is not.
 --
 -- found_valid (the owner that halving finds in a valid pool is the table's), probe_valid (and of a probe)
+-- owner_in, copies_in (on the table of arrays and numbers a lookup is one in these)
 -- looked_two, copied_two (a pool that is not valid); looked_in, copied_in (on the arrays of a valid pool the lookups that decide nothing
 -- answer as those on the pool do)
 use mathlib.Core.Path.{◌≡◌, refl, ap, ◌∙◌, subst, fun_ext}
@@ -23,11 +24,12 @@ use Rattle.slicing.specs.Limits.{max_range}
 use Rattle.slicing.specs.Runs.{total, owner_at, Coalesced}
 use Rattle.slicing_core.specs.Rows.{at, table_rows}
 use Rattle.lookups.specs.Copies.{Outcome, copies_of}
-use Rattle.lookups.specs.Promises.{owner_reply, owner_answer, LookedIn, Looked, Answered, CopiedIn, Copied}
+use Rattle.lookups.specs.Promises.{owner_reply, TableOf, owner_answer, LookedIn, Looked, Answered, CopiedIn, Copied}
 use Rattle.lookups.specs.declared.CopiesAnswer.{CopiesAnswer}
 use Rattle.lookups.specs.declared.Counters.{Counters}
 use Rattle.lookups.specs.declared.OwnerAnswer.{OwnerAnswer}
 use Rattle.lookups.specs.declared.OwnerAnswer.TheVariants.{Owner, Refused}
+use Rattle.lookups.specs.declared.Table.{Table}
 use Rattle.lookups.proofs.CopyAnswers.{Refusing, refuses_two}
 use Rattle.lookups.proofs.Replies.{owner_reply_answer}
 
@@ -52,6 +54,17 @@ probe_valid p v h block =
     let m = valid_limited p v in
     let e : min p.range max_range ≡ p.range = omega (arith, m.most) in
     rw e (fun_ext (λ t. found_valid p v h (point_of block t p.range) (point_of_below block t p.range m.some)))
+
+-- ---- on the table of arrays and numbers a lookup is one in these
+
+module _ {t : Table} {s o : List ℕ} {q n R : ℕ} (e : TableOf t s o q n R) where
+  pub owner_in : {x : ℕ} {r : OwnerAnswer} → LookedIn t.columns.starts.now t.columns.owners.now t.columns.intervals t.devices t.range x r
+      → LookedIn s o q n R x r
+  owner_in h = rw (e.starts, e.owners, e.intervals, e.devices, e.range) at h
+
+  pub copies_in : {block k : ℕ} {c : Counters} {r : CopiesAnswer}
+      → CopiedIn t.columns.starts.now t.columns.owners.now t.columns.intervals t.devices t.range block k c r → CopiedIn s o q n R block k c r
+  copies_in h = rw (e.starts, e.owners, e.intervals, e.devices, e.range) at h
 
 -- ---- the owner of a point
 

@@ -5,13 +5,11 @@
 #![tactic(auto)]
 
 ghost use Rattle.std.specs.Prelude.{◌≡◌, replicate};
-ghost use Rattle.lookups.specs.Promises.{Located, Looked, LookedIn, Copied, CopiedIn};
+ghost use Rattle.lookups.specs.Promises.{Located, TableOf, Looked, LookedIn, Copied, CopiedIn};
 
-use lookup_core::{PROBES, owner_found, probe_owners, probe_point};
+use lookup_core::{Columns, PROBES, probe_point};
 use pools::Pool;
-use slicing::{
-    COPIES_OUTSIDE, FEW_OWNERS, MAX_INTERVALS, MAX_RANGE, NO_DEVICE, OUTSIDE, POINT_OUTSIDE,
-};
+use slicing::{COPIES_OUTSIDE, FEW_OWNERS, MAX_RANGE, NO_DEVICE, OUTSIDE, POINT_OUTSIDE};
 use valid_pools::valid;
 
 // The answer of a call for the owner of a point.
@@ -65,27 +63,6 @@ pub fn point(block: u64, probe: u64, range: u64) -> PointAnswer
     PointAnswer::Point(probe_point(block, probe as u32, range))
 }
 
-// The owner of a point, on the lent arrays of a pool: for callers that make many lookups. 13 where the
-// point is at or above the range, then 10 where no device is present.
-pub fn owner_in<'a>(
-    starts: &'a [u32; MAX_INTERVALS],
-    owners: &'a [u16; MAX_INTERVALS],
-    intervals: usize,
-    devices: usize,
-    range: u64,
-    point: u64,
-) -> OwnerAnswer
-    ensures { LookedIn starts.now owners.now intervals devices range point result }
-{
-    if point >= range {
-        return OwnerAnswer::Refused(POINT_OUTSIDE);
-    }
-    if devices == 0 {
-        return OwnerAnswer::Refused(NO_DEVICE);
-    }
-    OwnerAnswer::Owner(owner_found(starts, owners, intervals, point))
-}
-
 fn refused(refusal: u32, probes: u32, counters: Counters) -> CopiesAnswer
     ensures { (result.refusal ≡ refusal) × (result.owners ≡ replicate 8 0) × (result.probes ≡ probes) × (result.counters ≡ counters) }
 {
@@ -97,42 +74,73 @@ fn refused(refusal: u32, probes: u32, counters: Counters) -> CopiesAnswer
     }
 }
 
-// The copies of a block, on the lent arrays of a pool: for callers that make many lookups. 11 where k is
-// not within 1 to 8; 10 where no device is present; 12, with 256 probes, where 256 probes find fewer
-// than k different owners.
-pub fn copies_in<'a>(
-    starts: &'a [u32; MAX_INTERVALS],
-    owners: &'a [u16; MAX_INTERVALS],
-    intervals: usize,
-    devices: usize,
-    range: u64,
-    block: u64,
-    k: u64,
-    counters: Counters,
-) -> CopiesAnswer
-    ensures { CopiedIn starts.now owners.now intervals devices range block k counters result }
-{
-    if k < 1 || k > 8 {
-        return refused(COPIES_OUTSIDE, 0, counters);
+// The arrays and numbers of a pool, lent: for callers that make many lookups. Nothing is asked of them, and a
+// lookup decides nothing about them.
+#[derive(Clone, Copy)]
+pub struct Table<'a> {
+    pub columns: Columns<'a>,
+    pub devices: usize,
+    pub range: u64,
+}
+
+impl<'a> Table<'a> {
+    // That of a pool.
+    pub fn of(pool: &'a Pool) -> Table<'a>
+        ensures { TableOf result pool.now.starts pool.now.owners pool.now.intervals pool.now.devices pool.now.range }
+    {
+        Table {
+            columns: Columns {
+                starts: &pool.starts,
+                owners: &pool.owners,
+                intervals: pool.intervals,
+            },
+            devices: pool.devices,
+            range: pool.range,
+        }
     }
-    if devices == 0 {
-        return refused(NO_DEVICE, 0, counters);
+
+    // The owner of a point. 13 where the point is at or above the range, then 10 where no device is present.
+    pub fn owner(self, point: u64) -> OwnerAnswer
+        ensures { LookedIn self.entry.columns.starts.now self.entry.columns.owners.now self.entry.columns.intervals self.entry.devices
+            self.entry.range point result }
+    {
+        if point >= self.range {
+            return OwnerAnswer::Refused(POINT_OUTSIDE);
+        }
+        if self.devices == 0 {
+            return OwnerAnswer::Refused(NO_DEVICE);
+        }
+        OwnerAnswer::Owner(self.columns.owner_found(point))
     }
-    let most = range.min(MAX_RANGE);
-    let probed = probe_owners(starts, owners, intervals, most, block, k as usize);
-    if probed.found < k as usize {
-        return refused(FEW_OWNERS, PROBES, counters);
-    }
-    // A variable: a literal that takes the array straight from a field gets no proof.
-    let list = probed.owners;
-    CopiesAnswer {
-        refusal: 0,
-        owners: list,
-        probes: probed.probes,
-        counters: Counters {
-            lookups: counters.lookups.saturating_add(1),
-            probes: counters.probes.saturating_add(probed.probes),
-        },
+
+    // The copies of a block. 11 where k is not within 1 to 8; 10 where no device is present; 12, with 256
+    // probes, where 256 probes find fewer than k different owners.
+    pub fn copies(self, block: u64, k: u64, counters: Counters) -> CopiesAnswer
+        ensures { CopiedIn self.entry.columns.starts.now self.entry.columns.owners.now self.entry.columns.intervals self.entry.devices
+            self.entry.range block k counters result }
+    {
+        if k < 1 || k > 8 {
+            return refused(COPIES_OUTSIDE, 0, counters);
+        }
+        if self.devices == 0 {
+            return refused(NO_DEVICE, 0, counters);
+        }
+        let most = self.range.min(MAX_RANGE);
+        let probed = self.columns.probe_owners(most, block, k as usize);
+        if probed.found < k as usize {
+            return refused(FEW_OWNERS, PROBES, counters);
+        }
+        // A variable: a literal that takes the array straight from a field gets no proof.
+        let list = probed.owners;
+        CopiesAnswer {
+            refusal: 0,
+            owners: list,
+            probes: probed.probes,
+            counters: Counters {
+                lookups: counters.lookups.saturating_add(1),
+                probes: counters.probes.saturating_add(probed.probes),
+            },
+        }
     }
 }
 
@@ -144,14 +152,7 @@ pub fn owner(pool: &Pool, point: u64) -> OwnerAnswer
     if !valid(*pool) {
         return OwnerAnswer::Refused(OUTSIDE);
     }
-    owner_in(
-        &pool.starts,
-        &pool.owners,
-        pool.intervals,
-        pool.devices,
-        pool.range,
-        point,
-    )
+    Table::of(pool).owner(point)
 }
 
 // The k devices that hold the copies of a block. 2 for a pool that is not valid; 11 where k is not within
@@ -163,16 +164,7 @@ pub fn copies(pool: &Pool, block: u64, k: u64, counters: Counters) -> CopiesAnsw
     if !valid(*pool) {
         return refused(OUTSIDE, 0, counters);
     }
-    copies_in(
-        &pool.starts,
-        &pool.owners,
-        pool.intervals,
-        pool.devices,
-        pool.range,
-        block,
-        k,
-        counters,
-    )
+    Table::of(pool).copies(block, k, counters)
 }
 
 // The owner of a point, of a pool by value, which it lends to `owner`.

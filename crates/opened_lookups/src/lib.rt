@@ -2,11 +2,14 @@
 // The image is read and checked once; a lookup then decides nothing, and any contents of the arrays get an answer.
 #![tactic(auto)]
 
+ghost use Rattle.slicing_core.specs.Rows.{at};
+ghost use Rattle.lookups.specs.Promises.{TableOf};
 ghost use Rattle.opened_lookups.specs.Promises.{OpenedFrom, OwnedIn, CopiedOneIn};
 
-use answers::put;
+use answers::put3;
+use lookup_core::Columns;
 use lookup_numbers::{ROW, counters_of, put_counters, put_owner, put_row};
-use lookups::{copies_in, owner_in};
+use lookups::Table;
 use slicing::{MAX_INTERVALS, SHORT_BUFFER};
 
 // Opens an image: the first 4,096 places of `starts` and `owners` become the pool's own, unused ones 0; numbers:
@@ -21,17 +24,38 @@ pub fn open(image: &[u8], starts: &mut [u32], owners: &mut [u16], numbers: &mut 
     }
     let made = images::read(image);
     if made.refusal > 0 {
-        put(numbers, [0; 3]);
+        put3(numbers, 0, 0, 0);
         return made.refusal;
     }
     let pool = made.pool;
     starts[..MAX_INTERVALS].copy_from_slice(&pool.starts);
     owners[..MAX_INTERVALS].copy_from_slice(&pool.owners);
-    put(
+    put3(
         numbers,
-        [pool.range, pool.intervals as u64, pool.devices as u64],
+        pool.range,
+        pool.intervals as u64,
+        pool.devices as u64,
     );
     0
+}
+
+// The table of an opened pool, whose arrays the C interface hands one by one.
+fn table_of<'a>(
+    starts: &'a [u32; MAX_INTERVALS],
+    owners: &'a [u16; MAX_INTERVALS],
+    numbers: &'a [u64; 3],
+) -> Table<'a>
+    ensures { TableOf result starts.now owners.now (at numbers.now 1) (at numbers.now 2) (at numbers.now 0) }
+{
+    Table {
+        columns: Columns {
+            starts,
+            owners,
+            intervals: numbers[1] as usize,
+        },
+        devices: numbers[2] as usize,
+        range: numbers[0],
+    }
 }
 
 // The owner of a point of an opened pool; answer: its id. 13 where the point is at or above the range, then 10
@@ -49,14 +73,7 @@ pub fn opened_owner<'a>(
     if answer.is_empty() {
         return SHORT_BUFFER;
     }
-    let found = owner_in(
-        starts,
-        owners,
-        numbers[1] as usize,
-        numbers[2] as usize,
-        numbers[0],
-        point,
-    );
+    let found = table_of(starts, owners, numbers).owner(point);
     put_owner(answer, found)
 }
 
@@ -78,16 +95,7 @@ pub fn opened_copies<'a>(
         return SHORT_BUFFER;
     }
     let counters = counters_of(tally);
-    let answer = copies_in(
-        starts,
-        owners,
-        numbers[1] as usize,
-        numbers[2] as usize,
-        numbers[0],
-        block,
-        k,
-        counters,
-    );
+    let answer = table_of(starts, owners, numbers).copies(block, k, counters);
     put_row(row, answer);
     put_counters(tally, answer.counters);
     answer.refusal
