@@ -20,7 +20,7 @@ fn widen(into: &mut [u64], beside: &mut [u64], ids: &[u16], values: &[u32], n: u
     ensures ids { Widened ids.now n into.new }
     ensures values { Widened values.now n beside.new }
 {
-    // A loop: with a map of each array a pool of eight devices took a quarter more instructions to check.
+    // A loop: with a map of each array a pool of eight devices took three tenths more instructions to check.
     for i in 0..n {
         into[i] = u64::from(ids[i]);
         beside[i] = u64::from(values[i]);
