@@ -41,8 +41,6 @@ use Rattle.history_lines.specs.Lines.{line_in}
 use Rattle.history_numbers.specs.Text.{line_end, split}
 use Rattle.history_lines.proofs.LineLimits.{range_limits}
 use Rattle.history_printing.specs.Printing.{fields, printed_rows}
-use Rattle.history.specs.declared.transcripts.TranscriptAnswer.{TranscriptAnswer}
-use Rattle.history.specs.declared.transcripts.TranscriptAnswer.TheVariants.{Printed}
 use Rattle.history.specs.Histories.{last_of, lines_of, line_ends, unfinished}
 use Rattle.history.specs.Histories as Histories
 use Rattle.history.specs.Promises.{room, Transcribed, Left}
@@ -202,8 +200,8 @@ table_listed p v = sym (table_rows_lem p v) ∙ ap (λ ys. heading ++ ys) (rows_
 
 module _ (xs : List ℕ) where
   -- a buffer with room, and at most 65,536 bytes of text
-  pub bytes_written : (before after : List ℕ) (r : TranscriptAnswer) → Transcribed xs before r after → room ≤ length before → length xs ≤ max_text
-      → (ys : List ℕ) → replayed xs ≡ ys → (r ≡ Printed (length ys)) × (after ≡ ys ++ drop (length ys) before)
+  pub bytes_written : (before after : List ℕ) (r : Result ℕ Refusal) → Transcribed xs before r after → room ≤ length before → length xs ≤ max_text
+      → (ys : List ℕ) → replayed xs ≡ ys → (r ≡ Ok (length ys)) × (after ≡ ys ++ drop (length ys) before)
   bytes_written before after r t b l ys e =
       let z = le-ltb (length before) room b in
       let q : transcript xs ≡ ys = transcript_replayed xs l ∙ e in
@@ -296,8 +294,8 @@ module _ {xs : List ℕ} (g : Ranged xs) where
   -- ---- the promises of the calls
 
   -- `transcript` writes what is printed of each line and of the table, and answers how many bytes that is
-  pub ranged_bytes : (before after : List ℕ) (r : TranscriptAnswer) → Transcribed xs before r after → room ≤ length before → length xs ≤ max_text
-      → let ys = lines_then table in (r ≡ Printed (length ys)) × (after ≡ ys ++ drop (length ys) before)
+  pub ranged_bytes : (before after : List ℕ) (r : Result ℕ Refusal) → Transcribed xs before r after → room ≤ length before → length xs ≤ max_text
+      → let ys = lines_then table in (r ≡ Ok (length ys)) × (after ≡ ys ++ drop (length ys) before)
   ranged_bytes before after r t b l = bytes_written xs before after r t b l (lines_then table) g.printed
 
   -- `pool_after` answers the pool that the calls left
@@ -495,8 +493,8 @@ module _ {xs : List ℕ} (g : Unranged xs) where
   pub unranged_table : replayed xs ≡ ys
   unranged_table = g.printed
 
-  pub unranged_bytes : (before after : List ℕ) (r : TranscriptAnswer) → Transcribed xs before r after → room ≤ length before → length xs ≤ max_text
-      → (r ≡ Printed (length ys)) × (after ≡ ys ++ drop (length ys) before)
+  pub unranged_bytes : (before after : List ℕ) (r : Result ℕ Refusal) → Transcribed xs before r after → room ≤ length before → length xs ≤ max_text
+      → (r ≡ Ok (length ys)) × (after ≡ ys ++ drop (length ys) before)
   unranged_bytes before after r t b l = bytes_written xs before after r t b l ys unranged_table
 
   pub unranged_pool : (r : PoolAnswer) → Left xs r → length xs ≤ max_text → (r.refusal ≡ 0) × (r.pool ≡ pool_of (fresh 1 1))
