@@ -1,20 +1,23 @@
 -- One line on an opened pool: what `advance` and its parts give is what the definition's line gives.
 --
---   line_refused              a line that is refused by its text
---   line_begun                a change line after a range line
---   advanced_by               from the result that the definition's line gives
+--   refused_before, refused_range   a change line before a range line, and a range line after one
+--   advanced_range            a range line before any other
 --   places_length             how many places the list of a change line has
---   planned_few               how many intervals there are after a planned change
---   advanced_planned          a change line, from the plan of its change
-use mathlib.Core.Path.{◌≡◌, refl, sym, ap, ap₂, ◌∙◌, subst}
-use mathlib.Core.Bool.{Bool, true}
+--   number_some               a refusal's number is not 0
+--   plan_accepted, plan_declined   what a plan is, and what its refusal is
+--   planned_few, advanced_planned, advanced_declined   a change line, from the plan of its change, or from its refusal
+use mathlib.Core.Path.{◌≡◌, refl, sym, ◌∙◌, subst}
+use mathlib.Core.Bool.{Bool, true, false}
 use mathlib.Core.List.{List}
-use mathlib.Core.Logic.{◌⊎◌, inl, inr}
-use Prim.Native.Nat.{ℕ, zero, suc, ◌≤◌}
+use Prim.Native.Nat.{ℕ, ◌≤◌}
 use native.Mathlib.Omega.{arith}
 use lib.ListN.{length, length-replicate}
-use Rattle.slicing.specs.Changes.{State, change}
-use Rattle.slicing.specs.SixSteps.{move}
+use Rattle.std.specs.Prelude.{Ok, Err}
+use Rattle.refusals.specs.Replies.{number}
+use Rattle.refusals.specs.declared.Refusal.{Refusal}
+use Rattle.refusals.specs.declared.Refusal.TheVariants.{Shapeless, Outside, Misplaced, Present, Absent, Full, OnlyDevice, OverLimit, ShortList, NoDevice, CopiesOutside, FewOwners, PointOutside, Unmarked, OtherVersion, Faulty, ShortBuffer}
+use Rattle.slicing.specs.Changes.{Outcome, fresh, change}
+use Rattle.slicing.specs.SixSteps.{Move, move}
 use Rattle.slicing.proofs.Changes.{change_refused}
 use Rattle.packed_runs.specs.Words.{runs, room}
 use Rattle.opened.specs.declared.Opened.{Opened}
@@ -23,70 +26,91 @@ use Rattle.opened.proofs.OpenPools.{open_intervals}
 use Rattle.calls.specs.declared.Call.{Call}
 use Rattle.calls.specs.declared.Call.TheVariants.{Add, Remove, Resize}
 use Rattle.plans.specs.declared.Plan.{Plan}
-use Rattle.plans.specs.Plans.{Planned}
+use Rattle.plans.specs.Plans.{Accepted, Declined, Planned, accepts, refuses}
 use Rattle.calls.specs.Calls.{change_of}
-use Rattle.history_lines.specs.declared.lines.LineAnswer.{LineAnswer}
-use Rattle.history_lines.specs.declared.lines.LineAnswer.TheVariants.{Refused}
-use Rattle.history_steps.specs.Advances.{reading_in, changing, Advanced}
-use Rattle.history_steps.specs.Steps.{Reading, Result, places, refusal, result_of, applied}
-use Rattle.history_steps.specs.declared.advancing.Step.{Step}
+use Rattle.history_lines.specs.declared.lines.HistoryLine.TheVariants.{Range}
+use Rattle.history_steps.specs.Advances.{reading_in, changing, Advanced, refused, accepted}
+use Rattle.history_steps.specs.Steps.{Reading, places, refusal, result_of, applied}
 use Rattle.history_steps.proofs.OpenReadings.{state_renewed, open_renewed}
 
 -- ---- what the definition's line gives
 
-pub line_refused : (h : Reading) {l : LineAnswer} (n : ℕ) → l ≡ Refused n → applied h l ≡ refusal h n
-line_refused h n e = ap (applied h) e
-
-line_begun : (h : Reading) (call : Call) → h.begun ≡ true → applied h (changing call) ≡ result_of (change h.pool places (change_of call))
+line_begun : (h : Reading) (call : Call) → h.begun ≡ true → applied h (Ok (changing call)) ≡ result_of (change h.pool places (change_of call))
 line_begun h (Add d c) e = rw e
 line_begun h (Remove d) e = rw e
 line_begun h (Resize d c) e = rw e
 
+line_early : (h : Reading) (call : Call) → h.begun ≡ false → applied h (Ok (changing call)) ≡ refusal h 3
+line_early h (Add d c) e = rw e
+line_early h (Remove d) e = rw e
+line_early h (Resize d c) e = rw e
+
 -- ---- Advanced
 
-advanced_by : {h : Reading} {l : LineAnswer} {r : Step} {table : List ℕ} (o : Result) → applied h l ≡ o → r.refusal ≡ o.number → r.moved ≡ o.moved
-    → r.count ≡ o.count → reading_in r.begun r.pool table ≡ o.after → Open r.pool table → Advanced h l r table
-advanced_by o e n m k a w = record {
-  number = n ∙ sym (ap (λ (q : Result). q.number) e);
-  moved = m ∙ sym (ap (λ (q : Result). q.moved) e);
-  count = k ∙ sym (ap (λ (q : Result). q.count) e);
-  after = a ∙ sym (ap (λ (q : Result). q.after) e);
-  opened = w;
-}
+pub refused_before : (h : Reading) (call : Call) (table : List ℕ) → h.begun ≡ false → Advanced h (changing call) (Err Misplaced) table table
+refused_before h call table e = refused Misplaced refl (line_early h call e) refl
+
+pub refused_range : (h : Reading) (R M : ℕ) (table : List ℕ) → h.begun ≡ true → Advanced h (Range R M) (Err Misplaced) table table
+refused_range h R M table e = refused Misplaced refl (rw e) refl
+
+pub advanced_range : (h : Reading) (R M : ℕ) (table : List ℕ) → h.begun ≡ false → (o : Opened) → Open o table × (state_in o table ≡ fresh R M)
+    → Advanced h (Range R M) (Ok (record { moved = 0; count = 0; pool = o })) table table
+advanced_range h R M table e o f = accepted _ refl (rw (e, f.1)) f.0
 
 pub places_length : length places ≡ 4096
 places_length = length-replicate 4096 (move 0 0 0 0)
 
--- a change line, by its plan with a list of k places
-module _ (o : Opened) (table : List ℕ) (w : Open o table) (call : Call) (k : ℕ) (m : Plan) (work next : List ℕ)
-    (p : Planned (λ lent. change (state_in o table) lent (change_of call)) k o m work next) where
-  pub planned_few : m.after.intervals ≤ 4096
-  planned_few = go m.refusal refl
-    where
-      go : (n : ℕ) → m.refusal ≡ n → m.after.intervals ≤ 4096
-      go zero e = open_intervals (p.opened e)
-      go (suc n) e = rw (p.refused (λ z. omega (arith, e, z))) (open_intervals w)
+pub number_some : (e : Refusal) → 1 ≤ number e
+number_some Shapeless = omega arith
+number_some Outside = omega arith
+number_some Misplaced = omega arith
+number_some Present = omega arith
+number_some Absent = omega arith
+number_some Full = omega arith
+number_some OnlyDevice = omega arith
+number_some OverLimit = omega arith
+number_some ShortList = omega arith
+number_some NoDevice = omega arith
+number_some CopiesOutside = omega arith
+number_some FewOwners = omega arith
+number_some PointOutside = omega arith
+number_some Unmarked = omega arith
+number_some OtherVersion = omega arith
+number_some Faulty = omega arith
+number_some ShortBuffer = omega arith
 
-  -- `after` is the array that the table stands in afterwards
-  module _ (lent : length places ≡ k) (after : List ℕ) where
-    -- accepted: it has the runs of the new table
-    abbrev Renewed : Type 0
-    Renewed = (m.refusal ≡ 0) × (runs after 0 m.after.intervals ≡ runs next 0 m.after.intervals) × (length after ≡ room)
+module _ {outcome : List Move → Outcome} {k : ℕ} {work next : List ℕ} where
+  pub plan_accepted : {m : Plan} → Planned outcome k (Ok m) work next → Accepted outcome k m work next
+  plan_accepted (accepts m is a) = subst (λ (q : Plan). Accepted outcome k q work next) (cc) a
+  plan_accepted (refuses e is d) = absurd (cc)
 
-    -- refused: it is as it was
-    abbrev Stayed : Type 0
-    Stayed = (m.refusal ≡ 0 → ⊥) × (after ≡ table)
+  pub plan_declined : {e : Refusal} → Planned outcome k (Err e) work next → Declined outcome k e
+  plan_declined (accepts m is a) = absurd (cc)
+  plan_declined (refuses e is d) = subst (λ (q : Refusal). Declined outcome k q) (cc) d
 
-    settled_open : Renewed ⊎ Stayed → Open m.after after × (state_in m.after after ≡ (change (state_in o table) places (change_of call)).state)
-    settled_open (inl (z, e, l)) = (open_renewed m.after next after e l (p.opened z), state_renewed m.after next after e ∙ p.state z places lent)
-    settled_open (inr (z, e)) =
-        let same : state_in m.after after ≡ state_in o table = ap₂ (λ (q : Opened) xs. state_in q xs) (p.refused z) e in
-        let u = change_refused (state_in o table) places (change_of call) (omega (arith, p.number places lent, z)) in
-        (subst (λ (q : Opened). Open q after) (sym (p.refused z)) (subst (Open o) (sym e) w), same ∙ sym u.state)
+  pub planned_few : {m : Plan} → Planned outcome k (Ok m) work next → m.after.intervals ≤ 4096
+  planned_few p = open_intervals (plan_accepted p).opened
 
-    pub advanced_planned : (b : Bool) → b ≡ true → Renewed ⊎ Stayed
-        → Advanced (reading_in b o table) (changing call) (record { refusal = m.refusal; moved = m.moved; count = m.count; begun = true; pool = m.after }) after
-    advanced_planned b t s =
-        let f = settled_open s in
-        advanced_by _ (line_begun (reading_in b o table) call t) (p.number places lent) (p.moved places lent) (p.count places lent)
-        (ap (λ (s : State). record { begun = true; pool = s }) f.1) f.0
+-- a change line after a range line, by its plan with a list of k places
+module _ (o : Opened) (table : List ℕ) (call : Call) (k : ℕ) (lent : length places ≡ k) (b : Bool) (t : b ≡ true) where
+  abbrev outcome : List Move → Outcome
+  outcome xs = change (state_in o table) xs (change_of call)
+
+  -- accepted: `after`, the array that the table stands in afterwards, has the runs of the new table
+  pub advanced_planned : {m : Plan} {work next after : List ℕ} → Planned outcome k (Ok m) work next
+      → runs after 0 m.after.intervals ≡ runs next 0 m.after.intervals → length after ≡ room
+      → Advanced (reading_in b o table) (changing call) (Ok (record { moved = m.moved; count = m.count; pool = m.after })) table after
+  advanced_planned {m} {work} {next} {after} planned e l =
+      let p = plan_accepted planned in
+      let state = state_renewed m.after next after e ∙ p.state places lent in
+      accepted _ refl
+      (line_begun (reading_in b o table) call t ∙ rw (p.number places lent, sym (p.moved places lent), sym (p.count places lent), sym state))
+      (open_renewed m.after next after e l p.opened)
+
+  -- refused: it is as it was
+  pub advanced_declined : {e : Refusal} {work next : List ℕ} → Planned outcome k (Err e) work next → Advanced (reading_in b o table) (changing call) (Err e) table table
+  advanced_declined {e} planned =
+      let d = plan_declined planned in
+      let number_is = d.number places lent in
+      let u = change_refused (state_in o table) places (change_of call) (omega (arith, number_is, number_some e)) in
+      refused e refl (line_begun (reading_in b o table) call t ∙ rw (number_is, u.moved, u.count, u.state, t)) refl

@@ -11,7 +11,6 @@ use Rattle.refusals.specs.declared.Refusal.{Refusal}
 use Rattle.opened.specs.OpenPools.{state_in, Open}
 use Rattle.opened.specs.declared.Opened.{Opened}
 use Rattle.calls.specs.declared.Call.{Call}
-use Rattle.calls.specs.declared.Call.TheVariants as Call
 use Rattle.history_lines.specs.declared.lines.HistoryLine.{HistoryLine}
 use Rattle.history_lines.specs.declared.lines.HistoryLine.TheVariants.{Add, Remove, Resize}
 use Rattle.history_steps.specs.Steps.{Reading, Result, refusal, applied}

@@ -1,5 +1,6 @@
 // One line of a history, applied to a pool by value.
 ghost use Rattle.std.specs.Prelude.{◌≡◌, true, false};
+ghost use Rattle.refusals.specs.Replies.{number};
 ghost use Rattle.pools.specs.Pools.{pool_of};
 ghost use Rattle.calls.specs.Calls.{change_of};
 ghost use Rattle.slicing.specs.Changes as Changes;
@@ -9,10 +10,10 @@ ghost use Rattle.history_steps.specs.Promises.{refused as refusedLine};
 
 use crate::advancing::PLACES;
 use calls::{Call, plan};
-use history_lines::{LineAnswer, line};
+use history_lines::{HistoryLine, line};
 use packed_runs::blank;
 use pools::{Pool, close, fresh};
-use slicing::{MISPLACED, OUTSIDE};
+use refusals::Refusal;
 use valid_pools::open;
 
 // Whether a range line was accepted, and the pool.
@@ -35,7 +36,7 @@ impl History {
 }
 
 // What a line gives: the refusal number or 0, the moved points, the number of moves, and the history
-// afterwards.
+// afterwards. The number stands beside them since a refused line gives the history back as it was.
 #[derive(Clone, Copy)]
 pub struct LineResult {
     pub refusal: u32,
@@ -44,11 +45,11 @@ pub struct LineResult {
     pub history: History,
 }
 
-fn refused(history: History, refusal: u32) -> LineResult
-    ensures { result ≡ refusedLine history refusal }
+fn refused(history: History, refusal: Refusal) -> LineResult
+    ensures { result ≡ refusedLine history (number refusal) }
 {
     LineResult {
-        refusal,
+        refusal: u32::from(refusal),
         moved: 0,
         count: 0,
         history,
@@ -60,7 +61,7 @@ fn ranged(history: History, range: u64, limit: u64) -> LineResult
     ensures { range_outside range limit ≡ false → result ≡ ranged_line history range limit }
 {
     if history.begun {
-        return refused(history, MISPLACED);
+        return refused(history, Refusal::Misplaced);
     }
     LineResult {
         refusal: 0,
@@ -78,40 +79,38 @@ fn changed(history: History, call: Call) -> LineResult
     ensures { ChangedLine history (change_of call) result }
 {
     if !history.begun {
-        return refused(history, MISPLACED);
+        return refused(history, Refusal::Misplaced);
     }
     let mut table = blank();
-    let checked = open(history.pool, &mut table);
-    if !checked.valid {
-        return refused(history, OUTSIDE);
-    }
+    let Some(opened) = open(history.pool, &mut table) else {
+        return refused(history, Refusal::Outside);
+    };
     let mut work = blank();
     let mut next = blank();
-    let made = plan(checked.opened, call, PLACES, &table, &mut work, &mut next);
-    if made.refusal > 0 {
-        return refused(history, made.refusal);
-    }
-    LineResult {
-        refusal: 0,
-        moved: made.moved,
-        count: made.count,
-        history: History {
-            begun: true,
-            pool: close(made.after, &next),
+    match plan(opened, call, PLACES, &table, &mut work, &mut next) {
+        Ok(made) => LineResult {
+            refusal: 0,
+            moved: made.moved,
+            count: made.count,
+            history: History {
+                begun: true,
+                pool: close(made.after, &next),
+            },
         },
+        Err(refusal) => refused(history, refusal),
     }
 }
 
 // What a line says, applied to a history.
-fn applied(history: History, said: LineAnswer) -> LineResult
+fn applied(history: History, said: Result<HistoryLine, Refusal>) -> LineResult
     ensures { Said history said result }
 {
     match said {
-        LineAnswer::Range(range, limit) => ranged(history, range, limit),
-        LineAnswer::Add(id, capacity) => changed(history, Call::Add(id, capacity)),
-        LineAnswer::Remove(id) => changed(history, Call::Remove(id)),
-        LineAnswer::Resize(id, capacity) => changed(history, Call::Resize(id, capacity)),
-        LineAnswer::Refused(refusal) => refused(history, refusal),
+        Ok(HistoryLine::Range(range, limit)) => ranged(history, range, limit),
+        Ok(HistoryLine::Add(id, capacity)) => changed(history, Call::Add(id, capacity)),
+        Ok(HistoryLine::Remove(id)) => changed(history, Call::Remove(id)),
+        Ok(HistoryLine::Resize(id, capacity)) => changed(history, Call::Resize(id, capacity)),
+        Err(refusal) => refused(history, refusal),
     }
 }
 

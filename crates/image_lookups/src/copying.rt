@@ -7,7 +7,7 @@ ghost use Rattle.image_lookups.specs.Promises.{CopiedOne, CopiedMany, rows_for, 
 use lookup_numbers::{ROW, counters_of, put_counters, put_refusal, put_row};
 use lookups::{Counters, Table};
 use pools::Pool;
-use slicing::SHORT_BUFFER;
+use refusals::Refusal;
 
 // The copies of one block. The tally is two numbers, lookups and probes; the row is ten: the refusal number
 // or 0, the eight owners, the probes. 17 where the tally has under two places or the row under ten;
@@ -17,7 +17,7 @@ pub fn copies(image: &[u8], block: u64, k: u64, tally: &mut [u32], row: &mut [u3
     ensures { CopiedOne image.now block k tally.old row.old (record { number = result; tally = tally.new; rows = row.new }) }
 {
     if tally.len() < 2 || row.len() < ROW {
-        return SHORT_BUFFER;
+        return u32::from(Refusal::ShortBuffer);
     }
     let made = images::read(image);
     if made.refusal > 0 {
@@ -60,7 +60,7 @@ pub fn copies_of_many(
     ensures { CopiedMany image.now blocks.now k tally.old rows.old (record { number = result; tally = tally.new; rows = rows.new }) }
 {
     if tally.len() < 2 || rows.len() / ROW < blocks.len() {
-        return SHORT_BUFFER;
+        return u32::from(Refusal::ShortBuffer);
     }
     let made = images::read(image);
     if made.refusal > 0 {

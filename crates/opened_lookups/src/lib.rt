@@ -6,11 +6,12 @@ ghost use Rattle.slicing_core.specs.Rows.{at};
 ghost use Rattle.lookups.specs.Promises.{TableOf};
 ghost use Rattle.opened_lookups.specs.Promises.{OpenedFrom, OwnedIn, CopiedOneIn};
 
-use answers::put3;
+use answers::put;
 use lookup_core::Columns;
 use lookup_numbers::{ROW, counters_of, put_counters, put_owner, put_row};
 use lookups::Table;
-use slicing::{MAX_INTERVALS, SHORT_BUFFER};
+use refusals::Refusal;
+use slicing::MAX_INTERVALS;
 
 // Opens an image: the first 4,096 places of `starts` and `owners` become the pool's own, unused ones 0; numbers:
 // range, intervals, devices. 17 where the arrays have under 4,096 places or the numbers under three,
@@ -20,21 +21,19 @@ pub fn open(image: &[u8], starts: &mut [u32], owners: &mut [u16], numbers: &mut 
         (record { number = result; starts = starts.new; owners = owners.new; numbers = numbers.new }) }
 {
     if starts.len() < MAX_INTERVALS || owners.len() < MAX_INTERVALS || numbers.len() < 3 {
-        return SHORT_BUFFER;
+        return u32::from(Refusal::ShortBuffer);
     }
     let made = images::read(image);
     if made.refusal > 0 {
-        put3(numbers, 0, 0, 0);
+        put(numbers, [0; 3]);
         return made.refusal;
     }
     let pool = made.pool;
     starts[..MAX_INTERVALS].copy_from_slice(&pool.starts);
     owners[..MAX_INTERVALS].copy_from_slice(&pool.owners);
-    put3(
+    put(
         numbers,
-        pool.range,
-        pool.intervals as u64,
-        pool.devices as u64,
+        [pool.range, pool.intervals as u64, pool.devices as u64],
     );
     0
 }
@@ -71,7 +70,7 @@ pub fn opened_owner<'a>(
         (record { number = result; places = answer.new }) }
 {
     if answer.is_empty() {
-        return SHORT_BUFFER;
+        return u32::from(Refusal::ShortBuffer);
     }
     let found = table_of(starts, owners, numbers).owner(point);
     put_owner(answer, found)
@@ -92,7 +91,7 @@ pub fn opened_copies<'a>(
         (record { number = result; tally = tally.new; rows = row.new }) }
 {
     if tally.len() < 2 || row.len() < ROW {
-        return SHORT_BUFFER;
+        return u32::from(Refusal::ShortBuffer);
     }
     let counters = counters_of(tally);
     let answer = table_of(starts, owners, numbers).copies(block, k, counters);

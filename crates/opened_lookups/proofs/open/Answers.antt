@@ -23,4 +23,4 @@ returns c =
     opened_stored a.image.now a.starts.now a.owners.now a.numbers.now c.read-made.result c.read-made.ensures
     c.if-starts-lt-MAX_INTERVALS.false c.if-owners-lt-MAX_INTERVALS.false c.if-numbers-lt3.false _ _ _ c.if-made-gt0.false
     (ap (λ ys. ys ++ drop 4096 a.starts.now) c.copy_from_slice.ensures.after) (ap (λ ys. ys ++ drop 4096 a.owners.now) c.copy_from_slice-2.ensures.after)
-    c.put3-2.ensures
+    c.put-2.ensures
