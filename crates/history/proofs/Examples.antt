@@ -9,6 +9,9 @@ use mathlib.Core.Path.{◌≡◌, refl, ap, ◌∙◌}
 use mathlib.Core.Bool.{cond}
 use mathlib.Core.List.{List, [], ◌∷◌, ◌++◌}
 use Prim.Native.Nat.{ℕ, suc}
+use Rattle.std.specs.Prelude.{Ok, Err}
+use Rattle.std.specs.Prelude as Prelude
+use Rattle.refusals.specs.declared.Refusal.{Refusal}
 use Rattle.slicing.specs.Changes.{add, remove, resize, change_by, change}
 use Rattle.slicing.specs.ShareRule.{Rule, shares}
 use Rattle.slicing.specs.SixSteps.{turns}
@@ -16,26 +19,26 @@ use Rattle.slicing.proofs.Computing.{computed, shares_computed}
 use Rattle.history_lines.specs.Lines.{line_in}
 use Rattle.history_numbers.specs.Text.{line_end, split, number_in, capacity_in}
 use Rattle.history_printing.specs.Printing.{decimal}
-use Rattle.history_lines.specs.declared.lines.LineAnswer.{LineAnswer}
-use Rattle.history_lines.specs.declared.lines.LineAnswer.TheVariants.{Range, Add, Remove, Resize, Refused}
+use Rattle.history_lines.specs.declared.lines.HistoryLine.{HistoryLine}
+use Rattle.history_lines.specs.declared.lines.HistoryLine.TheVariants.{Range, Add, Remove, Resize}
 use Rattle.history_steps.specs.Steps.{Reading, start, Result, refusal, places, result_of, applied}
 use Rattle.history.specs.Replay.{printed_line, printed_table, replay, replayed, transcript}
 
 -- a line and a replay under a share rule: those of the rule in force are `applied` and `replay`
-abbrev applied_by : Rule → Reading → LineAnswer → Result
-applied_by rule h (Refused n) = applied h (Refused n)
-applied_by rule h (Range R M) = applied h (Range R M)
-applied_by rule h (Add d c) = cond h.begun (result_of (change_by rule h.pool places (add d c))) (refusal h 3)
-applied_by rule h (Remove d) = cond h.begun (result_of (change_by rule h.pool places (remove d))) (refusal h 3)
-applied_by rule h (Resize d c) = cond h.begun (result_of (change_by rule h.pool places (resize d c))) (refusal h 3)
+abbrev applied_by : Rule → Reading → Prelude.Result HistoryLine Refusal → Result
+applied_by rule h (Err e) = applied h (Err e)
+applied_by rule h (Ok (Range R M)) = applied h (Ok (Range R M))
+applied_by rule h (Ok (Add d c)) = cond h.begun (result_of (change_by rule h.pool places (add d c))) (refusal h 3)
+applied_by rule h (Ok (Remove d)) = cond h.begun (result_of (change_by rule h.pool places (remove d))) (refusal h 3)
+applied_by rule h (Ok (Resize d c)) = cond h.begun (result_of (change_by rule h.pool places (resize d c))) (refusal h 3)
 
-applied_shares : (h : Reading) (l : LineAnswer) → applied h l ≡ applied_by shares h l
+applied_shares : (h : Reading) (l : Prelude.Result HistoryLine Refusal) → applied h l ≡ applied_by shares h l
 unfolding change
-applied_shares h (Refused n) = refl
-applied_shares h (Range R M) = refl
-applied_shares h (Add d c) = refl
-applied_shares h (Remove d) = refl
-applied_shares h (Resize d c) = refl
+applied_shares h (Err e) = refl
+applied_shares h (Ok (Range R M)) = refl
+applied_shares h (Ok (Add d c)) = refl
+applied_shares h (Ok (Remove d)) = refl
+applied_shares h (Ok (Resize d c)) = refl
 
 abbrev replay_by : Rule → Reading → ℕ → List (List ℕ) → List ℕ
 replay_by rule h n [] = printed_table h.pool

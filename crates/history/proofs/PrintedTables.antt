@@ -16,14 +16,15 @@ use Rattle.pools.specs.Pools.{state_of, ValidPool}
 use Rattle.pools.specs.declared.Pool.{Pool}
 use Rattle.pools.proofs.PoolLaws.{intervals_rows}
 use Rattle.pools.proofs.ValidParts.{valid_coalesced, valid_covers}
-use Rattle.slicing.specs.Replies.{replied, declined}
+use Rattle.std.specs.Prelude.{Result, Ok, Err}
+use Rattle.refusals.specs.Replies.{reply_of, replied, declined}
+use Rattle.refusals.specs.declared.Refusal.{Refusal}
+use Rattle.refusals.specs.declared.Refusal.TheVariants.{ShortBuffer}
 use Rattle.slicing_core.specs.Rows.{interval_rows}
 use Rattle.slicing_core.proofs.Fronts.{front_put}
 use Rattle.history_numbers.specs.Text.{line_end}
 use Rattle.history_printing.specs.Printing.{printed_rows}
-use Rattle.history.specs.declared.transcripts.TranscriptAnswer.{TranscriptAnswer}
-use Rattle.history.specs.declared.transcripts.TranscriptAnswer.TheVariants.{Printed, Refused}
-use Rattle.history.specs.Promises.{room, transcript_reply, Transcribed}
+use Rattle.history.specs.Promises.{room, Transcribed}
 use Rattle.history.specs.Replay.{printed_table, max_text, too_long, replayed, transcript}
 
 -- the line `table`
@@ -56,32 +57,32 @@ module _ (p : Pool) (v : ValidPool p) where
 
 -- ---- the answer
 
-transcript_reply_answer : (a : Bool) (n : ℕ) → transcript_reply (cond a (Refused 17) (Printed n)) ≡ cond a (declined 17) (replied n)
+transcript_reply_answer : (a : Bool) (n : ℕ) → reply_of (cond a (Err ShortBuffer) (Ok n)) ≡ cond a (declined 17) (replied n)
 transcript_reply_answer true n = refl
 transcript_reply_answer false n = refl
 
 module _ (xs before : List ℕ) where
-  transcribed_answer : (r : TranscriptAnswer) (after : List ℕ) → r ≡ cond (ltb (length before) room) (Refused 17) (Printed (length (transcript xs)))
+  transcribed_answer : (r : Result ℕ Refusal) (after : List ℕ) → r ≡ cond (ltb (length before) room) (Err ShortBuffer) (Ok (length (transcript xs)))
       → after ≡ cond (ltb (length before) room) before (transcript xs ++ drop (length (transcript xs)) before) → Transcribed xs before r after
   transcribed_answer r after e f = record {
     answer = e;
-    reply = ap transcript_reply e ∙ transcript_reply_answer (ltb (length before) room) (length (transcript xs));
+    reply = ap reply_of e ∙ transcript_reply_answer (ltb (length before) room) (length (transcript xs));
     buffer = f;
   }
 
   module _ (h : room ≤ length before) where
     printed : (ys : List ℕ) → transcript xs ≡ ys → (n : ℕ) (after : List ℕ) → n ≡ length ys → after ≡ ys ++ drop (length ys) before
-        → Transcribed xs before (Printed n) after
+        → Transcribed xs before (Ok n) after
     printed ys t n after e f =
         let k = le-ltb (length before) room h in
-        transcribed_answer (Printed n) after (ap Printed e ∙ rw (k, t)) (f ∙ rw (k, t))
+        transcribed_answer (Ok n) after (ap Ok e ∙ rw (k, t)) (f ∙ rw (k, t))
 
     pub transcribed_long : max_text < length xs → (n : ℕ) (after : List ℕ) → n ≡ length too_long → after ≡ too_long ++ drop (length too_long) before
-        → Transcribed xs before (Printed n) after
+        → Transcribed xs before (Ok n) after
     unfolding transcript
     transcribed_long l = printed too_long (rw (lt-ltb max_text (length xs) l))
 
     pub transcribed_whole : length xs ≤ max_text → (n : ℕ) (after : List ℕ) → n ≡ length (replayed xs)
-        → after ≡ replayed xs ++ drop (length (replayed xs)) before → Transcribed xs before (Printed n) after
+        → after ≡ replayed xs ++ drop (length (replayed xs)) before → Transcribed xs before (Ok n) after
     unfolding transcript
     transcribed_whole l = printed (replayed xs) (rw (le-ltb max_text (length xs) l))

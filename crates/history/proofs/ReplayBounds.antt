@@ -9,6 +9,9 @@ use mathlib.Core.List.{List, [], ◌∷◌}
 use Prim.Native.Nat.{ℕ, zero, suc, ◌≤◌}
 use native.Mathlib.Omega.{arith}
 use lib.ListN.{length, length-replicate}
+use Rattle.std.specs.Prelude.{Ok, Err}
+use Rattle.std.specs.Prelude as Prelude
+use Rattle.refusals.specs.declared.Refusal.{Refusal}
 use Rattle.slicing.specs.Changes.{State, Change, add, remove, resize, change}
 use Rattle.slicing.specs.Claims.{Claim, written}
 use Rattle.slicing.specs.Ledger.{Ledger, opened, feed}
@@ -18,8 +21,8 @@ use Rattle.slicing.specs.SixSteps.{Move, move, reductions}
 use Rattle.slicing.specs.Validity.{Valid}
 use Rattle.slicing.proofs.Claims.{claim_valid}
 use Rattle.slicing.proofs.ShareRule.{total_shares}
-use Rattle.history_lines.specs.declared.lines.LineAnswer.{LineAnswer}
-use Rattle.history_lines.specs.declared.lines.LineAnswer.TheVariants.{Range, Add, Remove, Resize, Refused}
+use Rattle.history_lines.specs.declared.lines.HistoryLine.{HistoryLine}
+use Rattle.history_lines.specs.declared.lines.HistoryLine.TheVariants.{Range, Add, Remove, Resize}
 use Rattle.history_steps.specs.Steps.{Reading, Result, places, changed, applied}
 
 reductions_most : (has due : List (Run ℕ)) → reductions has due ≤ total has
@@ -75,9 +78,9 @@ module _ (h : Reading) (v : Valid h.pool) where
       })
       (none_small refl refl)
 
-  pub applied_small : (l : LineAnswer) → Small (applied h l)
-  applied_small (Refused n) = none_small refl refl
-  applied_small (Range R M) = small_either h.begun _ _ (none_small refl refl) (none_small refl refl)
-  applied_small (Add d c) = changed_small (add d c)
-  applied_small (Remove d) = changed_small (remove d)
-  applied_small (Resize d c) = changed_small (resize d c)
+  pub applied_small : (l : Prelude.Result HistoryLine Refusal) → Small (applied h l)
+  applied_small (Err e) = none_small refl refl
+  applied_small (Ok (Range R M)) = small_either h.begun _ _ (none_small refl refl) (none_small refl refl)
+  applied_small (Ok (Add d c)) = changed_small (add d c)
+  applied_small (Ok (Remove d)) = changed_small (remove d)
+  applied_small (Ok (Resize d c)) = changed_small (resize d c)

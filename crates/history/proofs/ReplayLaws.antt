@@ -15,14 +15,17 @@ use native.Mathlib.Omega.{arith}
 use lib.Dec.{ltb}
 use lib.ListN.{length, length-append}
 use borrow.Author.Tests.{ltb-true, le-ltb}
+use Rattle.std.specs.Prelude.{Ok, Err}
+use Rattle.std.specs.Prelude as Prelude
+use Rattle.refusals.specs.declared.Refusal.{Refusal}
 use Rattle.pools.specs.Pools.{pool_of}
 use Rattle.slicing.specs.Changes.{State, fresh, Change, add, remove, resize}
 use Rattle.slicing.specs.Limits.{max_range, max_limit}
 use Rattle.slicing.specs.Validity.{Valid}
 use Rattle.slicing.proofs.Changes.{valid_change, change_refused}
 use Rattle.slicing.proofs.Claims.{valid_fresh}
-use Rattle.history_lines.specs.declared.lines.LineAnswer.{LineAnswer}
-use Rattle.history_lines.specs.declared.lines.LineAnswer.TheVariants.{Range, Add, Remove, Resize, Refused}
+use Rattle.history_lines.specs.declared.lines.HistoryLine.{HistoryLine}
+use Rattle.history_lines.specs.declared.lines.HistoryLine.TheVariants.{Range, Add, Remove, Resize}
 use Rattle.history_lines.specs.Lines.{range_outside, line_in}
 use Rattle.history_numbers.specs.Text.{line_end, split}
 use Rattle.history_lines.proofs.LineLimits.{line_fits, range_limits}
@@ -40,16 +43,16 @@ stays_changed : (b : Bool) (s : State) (k : Change) → Stays (record { begun = 
 stays_changed true s k e = ap (λ t. record { begun = true; pool = t }) (change_refused s places k e).state
 stays_changed false s k e = refl
 
-stays_ranged : (b : Bool) (s : State) (R M : ℕ) → Stays (record { begun = b; pool = s }) (applied (record { begun = b; pool = s }) (Range R M))
+stays_ranged : (b : Bool) (s : State) (R M : ℕ) → Stays (record { begun = b; pool = s }) (applied (record { begun = b; pool = s }) (Ok (Range R M)))
 stays_ranged true s R M e = refl
 stays_ranged false s R M e = absurd (omega (arith, e))
 
-pub refused_stays : (h : Reading) (l : LineAnswer) → 1 ≤ (applied h l).number → (applied h l).after ≡ h
-refused_stays h (Refused n) = λ e. refl
-refused_stays h (Range R M) = stays_ranged h.begun h.pool R M
-refused_stays h (Add d c) = stays_changed h.begun h.pool (add d c)
-refused_stays h (Remove d) = stays_changed h.begun h.pool (remove d)
-refused_stays h (Resize d c) = stays_changed h.begun h.pool (resize d c)
+pub refused_stays : (h : Reading) (l : Prelude.Result HistoryLine Refusal) → 1 ≤ (applied h l).number → (applied h l).after ≡ h
+refused_stays h (Err x) = λ e. refl
+refused_stays h (Ok (Range R M)) = stays_ranged h.begun h.pool R M
+refused_stays h (Ok (Add d c)) = stays_changed h.begun h.pool (add d c)
+refused_stays h (Ok (Remove d)) = stays_changed h.begun h.pool (remove d)
+refused_stays h (Ok (Resize d c)) = stays_changed h.begun h.pool (resize d c)
 
 pub fresh_valid : (R M : ℕ) → range_outside R M ≡ false → Valid (fresh R M)
 fresh_valid R M e =
@@ -61,19 +64,19 @@ module _ (s : State) (v : Valid s) where
   changed_valid true k = valid_change s v places k
   changed_valid false k = v
 
-  ranged_valid : (b : Bool) (R M : ℕ) → range_outside R M ≡ false → Valid (applied (record { begun = b; pool = s }) (Range R M)).after.pool
+  ranged_valid : (b : Bool) (R M : ℕ) → range_outside R M ≡ false → Valid (applied (record { begun = b; pool = s }) (Ok (Range R M))).after.pool
   ranged_valid true R M e = v
   ranged_valid false R M e = fresh_valid R M e
 
 pub applied_valid : (h : Reading) → Valid h.pool → (xs : List ℕ) → Valid (applied h (line_in xs)).after.pool
 applied_valid h v xs = go (line_in xs) refl
   where
-    go : (l : LineAnswer) → line_in xs ≡ l → Valid (applied h l).after.pool
-    go (Refused n) e = v
-    go (Range R M) e = ranged_valid h.pool v h.begun R M (line_fits xs R M e)
-    go (Add d c) e = changed_valid h.pool v h.begun (add d c)
-    go (Remove d) e = changed_valid h.pool v h.begun (remove d)
-    go (Resize d c) e = changed_valid h.pool v h.begun (resize d c)
+    go : (l : Prelude.Result HistoryLine Refusal) → line_in xs ≡ l → Valid (applied h l).after.pool
+    go (Err x) e = v
+    go (Ok (Range R M)) e = ranged_valid h.pool v h.begun R M (line_fits xs R M e)
+    go (Ok (Add d c)) e = changed_valid h.pool v h.begun (add d c)
+    go (Ok (Remove d)) e = changed_valid h.pool v h.begun (remove d)
+    go (Ok (Resize d c)) e = changed_valid h.pool v h.begun (resize d c)
 
 -- ---- lines
 

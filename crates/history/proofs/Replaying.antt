@@ -2,25 +2,31 @@
 --
 --   Replaying text out₀ h line from place out     before the line at place `from`, with the reading h, `place` bytes are printed
 --   Gives h l n m k                                the numbers n, m, k are those that the line l gives on the reading h
+--   Stepped h l r before after                      r is what the line l, read or refused by its text, gives on the reading h
 --
 -- Replaying: replaying_none, replaying_room, replaying_step, replaying_table, replaying_end
 -- the pool that is printed: closed_valid, closed_state
--- Gives: gives_refused, gives_advanced
+-- Stepped: stepped_refused (a line refused by its text), stepped_advanced (one that is read); stepped_accepted, stepped_declined (what it leaves)
+use mathlib.Core.Bool.{Bool, true}
 use mathlib.Core.Path.{◌≡◌, refl, sym, ap, ap₂, ◌∙◌, subst}
 use mathlib.Core.List.{List, [], ◌∷◌, ◌++◌, append_assoc}
 use Prim.Native.Nat.{ℕ, ◌+◌, ◌*◌, ◌≤◌, ◌<◌}
 use native.Mathlib.Omega.{arith}
 use native.Mathlib.Numerals.{add-one}
 use lib.ListN.{length, take, drop, length-append, drop_of_length-le}
+use Rattle.std.specs.Prelude.{Result, Ok, Err}
+use Rattle.refusals.specs.Replies.{number}
+use Rattle.refusals.specs.declared.Refusal.{Refusal}
 use Rattle.pools.specs.Pools.{state_of, pool_of, ValidPool}
 use Rattle.pools.specs.declared.Pool.{Pool}
 use Rattle.pools.proofs.PoolLaws.{state_of_pool_of, valid_pool_pool_of}
 use Rattle.pools.proofs.ValidParts.{valid_limited}
+use Rattle.opened.specs.declared.Opened.{Opened}
+use Rattle.opened.specs.OpenPools.{Open}
 use Rattle.slicing.specs.Changes.{State}
 use Rattle.slicing.specs.Validity.{Valid}
 use Rattle.slicing_core.proofs.Fronts.{front_put}
-use Rattle.history_lines.specs.declared.lines.LineAnswer.{LineAnswer}
-use Rattle.history_lines.specs.declared.lines.LineAnswer.TheVariants.{Refused}
+use Rattle.history_lines.specs.declared.lines.HistoryLine.{HistoryLine}
 use Rattle.history_lines.specs.declared.lines.Part.{Part}
 use Rattle.history_lines.specs.Cuts.{part_at}
 use Rattle.history_numbers.specs.Text.{line_end, split}
@@ -28,7 +34,7 @@ use Rattle.history_lines.proofs.TextParts.{part_above, part_within}
 use Rattle.history_printing.specs.Printing.{fields}
 use Rattle.history_printing.proofs.Decimals.{length_fields4}
 use Rattle.history_printing.proofs.PutBehind.{put_room}
-use Rattle.history_steps.specs.Advances.{Advanced}
+use Rattle.history_steps.specs.Advances.{reading_in, Advanced, refused, accepted}
 use Rattle.history_steps.specs.declared.advancing.Step.{Step}
 use Rattle.history_steps.specs.Steps.{Reading, start, applied}
 use Rattle.history.specs.Replay.{printed_table, replay, replayed}
@@ -43,16 +49,47 @@ module _ (s : State) (v : Valid s) (p : Pool) (e : p ≡ pool_of s) where
   pub closed_state : state_of p ≡ s
   closed_state = ap state_of e ∙ state_of_pool_of s v
 
-pub record Gives (h : Reading) (l : LineAnswer) (n m k : ℕ) : Type 0 where
+pub record Gives (h : Reading) (l : Result HistoryLine Refusal) (n m k : ℕ) : Type 0 where
   pub number : n ≡ (applied h l).number
   pub moved : m ≡ (applied h l).moved
   pub count : k ≡ (applied h l).count
 
-pub gives_refused : (h : Reading) {l : LineAnswer} {n r : ℕ} → l ≡ Refused r → n ≡ r → Gives h l n 0 0
-gives_refused h e f = rw e (record { number = f; moved = refl; count = refl })
+-- a number by what it is
+pub gives_as : {h : Reading} {l : Result HistoryLine Refusal} {n r m k : ℕ} → n ≡ r → Gives h l r m k → Gives h l n m k
+gives_as e g = record { number = e ∙ g.number; moved = g.moved; count = g.count }
 
-pub gives_advanced : {h : Reading} {l : LineAnswer} {r : Step} {table : List ℕ} {n : ℕ} → Advanced h l r table → n ≡ r.refusal → Gives h l n r.moved r.count
-gives_advanced a f = record { number = f ∙ a.number; moved = a.moved; count = a.count }
+-- what a line gives on the reading h, its table in an array, refused by its text or not
+pub data Stepped (h : Reading) (l : Result HistoryLine Refusal) (r : Result Step Refusal) (before after : List ℕ) : Type 0 where
+  declines : (e : Refusal) → r ≡ Err e → Gives h l (number e) 0 0 → h ≡ (applied h l).after → after ≡ before → Stepped h l r before after
+  steps : (s : Step) → r ≡ Ok s → Gives h l 0 s.moved s.count → reading_in true s.pool after ≡ (applied h l).after → Open s.pool after
+      → Stepped h l r before after
+
+gives_result : (h : Reading) (l : Result HistoryLine Refusal) {n m k : ℕ} {g : Reading} → applied h l ≡ record { number = n; moved = m; count = k; after = g }
+    → Gives h l n m k × (g ≡ (applied h l).after)
+gives_result h l e = (record { number = rw e; moved = rw e; count = rw e }, rw e)
+
+pub stepped_refused : {h : Reading} {l : Result HistoryLine Refusal} {e : Refusal} {table : List ℕ} → l ≡ Err e → Stepped h l (Err e) table table
+stepped_refused {h} {l} {e} q = let g = gives_result h l (ap (applied h) q) in declines e refl g.0 g.1 refl
+
+pub stepped_advanced : {h : Reading} {l : Result HistoryLine Refusal} {m : HistoryLine} {r : Result Step Refusal} {before after : List ℕ} → l ≡ Ok m
+    → Advanced h m r before after → Stepped h l r before after
+stepped_advanced {h} {l} q (refused e is a t) = let g = gives_result h l (ap (applied h) q ∙ a) in declines e is g.0 g.1 t
+stepped_advanced {h} {l} q (accepted s is a w) = let g = gives_result h l (ap (applied h) q ∙ a) in steps s is g.0 g.1 w
+
+-- what it leaves, where it is accepted, and where it is refused
+pub stepped_accepted : {h : Reading} {l : Result HistoryLine Refusal} {r : Result Step Refusal} {before after : List ℕ} {s : Step} → Stepped h l r before after → r ≡ Ok s
+    → Gives h l 0 s.moved s.count × (reading_in true s.pool after ≡ (applied h l).after) × Open s.pool after
+stepped_accepted (declines e is g a t) q = absurd (cc)
+stepped_accepted {h} {l} {after = after} (steps s is g a w) q =
+    subst (λ (x : Step). Gives h l 0 x.moved x.count × (reading_in true x.pool after ≡ (applied h l).after) × Open x.pool after) (cc) (g, a, w)
+
+pub stepped_declined : {b : Bool} {o : Opened} {l : Result HistoryLine Refusal} {r : Result Step Refusal} {before after : List ℕ} {e : Refusal}
+    → Stepped (reading_in b o before) l r before after → r ≡ Err e → Open o before
+    → Gives (reading_in b o before) l (number e) 0 0 × (reading_in b o after ≡ (applied (reading_in b o before) l).after) × Open o after
+stepped_declined {b} {o} {l} {before = before} (declines e is g a t) q w =
+    let h = reading_in b o before in
+    (subst (λ x. Gives h l (number x) 0 0) (cc) g, ap (reading_in b o) t ∙ a, subst (Open o) (sym t) w)
+stepped_declined (steps s is g a x) q w = absurd (cc)
 
 module _ (text : List ℕ) where
   -- what is still to be printed from place `from` on

@@ -2,12 +2,12 @@
 ghost use Rattle.history.specs.Promises.{Left};
 
 use crate::transcripts::LONGEST;
-use history_lines::{LineAnswer, part_at};
+use history_lines::part_at;
 use history_steps::advance;
 use opened::making::without_devices;
 use packed_runs::blank;
 use pools::{PoolAnswer, close};
-use slicing::OUTSIDE;
+use refusals::Refusal;
 
 // The pool that a history leaves, refused lines included. 2 for more than 65,536 bytes; then the pool has
 // R = 1 and M = 1.
@@ -21,7 +21,7 @@ pub fn pool_after(text: &[u8]) -> PoolAnswer
     let mut pool = without_devices(1, 1);
     if text.len() > LONGEST {
         return PoolAnswer {
-            refusal: OUTSIDE,
+            refusal: u32::from(Refusal::Outside),
             pool: close(pool, &table),
         };
     }
@@ -29,15 +29,13 @@ pub fn pool_after(text: &[u8]) -> PoolAnswer
     // A while: a line that was read says where the next one starts.
     while from < text.len() {
         let part = part_at(text, from);
-        match part.said {
-            LineAnswer::Refused(_) => from = part.next,
-            said => {
-                let step = advance(begun, pool, said, &mut table, &mut work, &mut next);
-                begun = step.begun;
+        if let Ok(said) = part.said {
+            if let Ok(step) = advance(begun, pool, said, &mut table, &mut work, &mut next) {
+                begun = true;
                 pool = step.pool;
-                from = part.next;
             }
         }
+        from = part.next;
     }
     PoolAnswer {
         refusal: 0,

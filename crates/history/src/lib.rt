@@ -6,7 +6,7 @@
 mod last_pool;
 mod transcripts;
 
-pub use history_lines::{CapacityAnswer, LineAnswer, capacity, line};
+pub use history_lines::{HistoryLine, capacity, line};
 pub use history_steps::{History, LineResult, apply};
 pub use last_pool::pool_after;
-pub use transcripts::{ROOM, TranscriptAnswer, transcript};
+pub use transcripts::{ROOM, transcript};

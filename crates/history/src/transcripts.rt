@@ -4,26 +4,19 @@ ghost use Rattle.pools.specs.Pools.{state_of, ValidPool};
 ghost use Rattle.history.specs.Promises.{Transcribed};
 ghost use Rattle.history.specs.Replay.{printed_table, replayed};
 
-use history_lines::{LineAnswer, part_at};
+use history_lines::part_at;
 use history_printing::{put_line, put_rows, put_text};
 use history_steps::advance;
 use opened::making::without_devices;
 use packed_runs::blank;
 use pools::{Pool, close};
-use slicing::SHORT_BUFFER;
+use refusals::Refusal;
 
 // Every transcript fits into so many bytes.
 pub const ROOM: usize = 3145728;
 
 // The most bytes of a history.
 pub const LONGEST: usize = 65536;
-
-// The answer of a transcript: how many bytes were printed.
-#[derive(Clone, Copy)]
-pub enum TranscriptAnswer {
-    Printed(usize),
-    Refused(u32),
-}
 
 // Writes the table of a pool.
 fn put_table(out: &mut [u8], place: usize, pool: Pool) -> usize
@@ -60,19 +53,19 @@ fn replay(text: &[u8], out: &mut [u8]) -> usize
     // A while: a line that was read says where the next one starts.
     while from < text.len() {
         let part = part_at(text, from);
-        match part.said {
-            LineAnswer::Refused(refusal) => {
-                place = put_line(out, place, &[line, u64::from(refusal), 0, 0]);
-            }
-            said => {
-                let step = advance(begun, pool, said, &mut table, &mut work, &mut next);
-                place = put_line(
-                    out,
-                    place,
-                    &[line, u64::from(step.refusal), step.moved, step.count as u64],
-                );
-                begun = step.begun;
+        let step = match part.said {
+            Ok(said) => advance(begun, pool, said, &mut table, &mut work, &mut next),
+            Err(refusal) => Err(refusal),
+        };
+        match step {
+            Ok(step) => {
+                place = put_line(out, place, &[line, 0, step.moved, step.count as u64]);
+                begun = true;
                 pool = step.pool;
+            }
+            Err(refusal) => {
+                let number = u64::from(u32::from(refusal));
+                place = put_line(out, place, &[line, number, 0, 0]);
             }
         }
         line += 1;
@@ -84,14 +77,14 @@ fn replay(text: &[u8], out: &mut [u8]) -> usize
 // Writes what `slices` prints of a text, and answers how many bytes. More than 65,536 bytes give `too
 // long` alone. A buffer of less than ROOM bytes is refused with 17 and stays; the bytes behind the
 // transcript stay.
-pub fn transcript(text: &[u8], out: &mut [u8]) -> TranscriptAnswer
+pub fn transcript(text: &[u8], out: &mut [u8]) -> Result<usize, Refusal>
     ensures { Transcribed text.now out.old result out.new }
 {
     if out.len() < ROOM {
-        return TranscriptAnswer::Refused(SHORT_BUFFER);
+        return Err(Refusal::ShortBuffer);
     }
     if text.len() > LONGEST {
-        return TranscriptAnswer::Printed(put_text(out, 0, b"too long\n"));
+        return Ok(put_text(out, 0, b"too long\n"));
     }
-    TranscriptAnswer::Printed(replay(text, out))
+    Ok(replay(text, out))
 }
