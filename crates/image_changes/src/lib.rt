@@ -1,5 +1,6 @@
 // Changes of a pool: from its image to the image of the changed pool, the moves as flat numbers. For callers
-// that have neither structs nor anything to hold a pool in.
+// that have neither structs nor anything to hold a pool in. The answer is a number, beside places filled in the
+// caller's memory, and no Result: C gets it so.
 #![tactic(auto)]
 
 ghost use Rattle.std.specs.Prelude.{◌≡◌, ◌≤◌, length};
@@ -10,11 +11,10 @@ ghost use Rattle.image_changes.specs.Promises.{Changed, moved_as};
 use answers::put;
 use calls::{Call, plan};
 use flat_moves::write_moves;
-use images::WriteAnswer;
 use opened::Opened;
 use packed_runs::{ROOM, blank};
 use pools::close;
-use slicing::SHORT_BUFFER;
+use refusals::Refusal;
 
 // A change of an opened pool, whose table is `table`. It is planned with no list, so that the list stays
 // where the new image does not fit.
@@ -32,22 +32,24 @@ fn change(
 {
     let mut turns = blank();
     let mut after_table = blank();
-    let made = plan(
+    let made = match plan(
         before,
         call,
         list.len() / 4,
         table,
         &mut turns,
         &mut after_table,
-    );
-    if made.refusal > 0 {
-        put(answer, [0; 3]);
-        return made.refusal;
-    }
+    ) {
+        Ok(made) => made,
+        Err(refusal) => {
+            put(answer, [0; 3]);
+            return u32::from(refusal);
+        }
+    };
     let pool = close(made.after, &after_table);
-    let WriteAnswer::Written(size) = images::store(pool, next) else {
+    let Ok(size) = images::store(pool, next) else {
         put(answer, [0; 3]);
-        return SHORT_BUFFER;
+        return u32::from(Refusal::ShortBuffer);
     };
     write_moves(&turns, made.turns, &made.names, list);
     put(answer, [size as u64, made.moved, made.count as u64]);
@@ -69,13 +71,14 @@ pub fn change_image(
         (record { number = result; image = next.new; list = list.new; answer = answer.new }) }
 {
     if answer.len() < 3 {
-        return SHORT_BUFFER;
+        return u32::from(Refusal::ShortBuffer);
     }
     let mut table = blank();
-    let made = images::read_open(image, &mut table);
-    if made.refusal > 0 {
-        put(answer, [0; 3]);
-        return made.refusal;
+    match images::read_open(image, &mut table) {
+        Ok(made) => change(made.opened, &table, call, next, list, answer),
+        Err(refusal) => {
+            put(answer, [0; 3]);
+            u32::from(refusal)
+        }
     }
-    change(made.opened, &table, call, next, list, answer)
 }

@@ -11,6 +11,10 @@ use Prim.Native.Nat.{ℕ, ◌≤◌}
 use lib.Dec.{ltb}
 use lib.ListN.{length, drop}
 use borrow.Author.Tests.{le-ltb}
+use Rattle.std.specs.Prelude.{Result, Ok, Err}
+use Rattle.refusals.specs.Replies.{number}
+use Rattle.refusals.specs.declared.Refusal.{Refusal}
+use Rattle.refusals.specs.declared.Refusal.TheVariants.{ShortBuffer}
 use Rattle.slicing.specs.Changes.{State, fresh}
 use Rattle.slicing.specs.Limits.{max_range, max_limit, outside}
 use Rattle.slicing.specs.Validity.{Valid}
@@ -20,13 +24,9 @@ use Rattle.pools.specs.declared.PoolAnswer.{PoolAnswer}
 use Rattle.pools.proofs.PoolLaws.{state_of_pool_of, valid_pool_pool_of}
 use Rattle.image_numbers.specs.Format.{image_of}
 use Rattle.images.specs.Promises.{write_answer, buffer_after}
-use Rattle.images.specs.declared.WriteAnswer.{WriteAnswer}
-use Rattle.images.specs.declared.WriteAnswer.TheVariants as Write
 use Rattle.history.specs.Histories.{pool_after}
 use Rattle.history.specs.Promises.{room, Transcribed}
 use Rattle.history.specs.Replay.{max_text, transcript}
-use Rattle.history.specs.declared.transcripts.TranscriptAnswer.{TranscriptAnswer}
-use Rattle.history.specs.declared.transcripts.TranscriptAnswer.TheVariants as Answer
 use Rattle.history.proofs.ReplayLaws.{fresh_valid, pool_after_valid}
 use Rattle.image_making.specs.Promises.{Stored, unstored, stored_as, answered_in, FreshStored, ReplayStored, Transcript}
 
@@ -35,33 +35,34 @@ use Rattle.image_making.specs.Promises.{Stored, unstored, stored_as, answered_in
 answered : (k : ℕ) (b a : List ℕ) (r s : Stored) → k ≤ length a → r ≡ s → r ≡ answered_in k b a s
 answered k b a r s h e = rw (le-ltb (length a) k h) e
 
--- what is left of the bytes i; t tells whether the buffer is too short
+-- the bytes i put, or not, t telling whether the buffer is too short: what the call beneath answers, and what is left of it
+abbrev put_answer : Bool → List ℕ → Result ℕ Refusal
+put_answer t i = cond t (Err ShortBuffer) (Ok (length i))
+
 abbrev left : Bool → List ℕ → List ℕ → List ℕ → Stored
 left t i b a = cond t (unstored 17 b a) (record { number = 0; image = i ++ drop (length i) b; answer = length i ∷ drop 1 a })
 
+abbrev left_by : Result ℕ Refusal → List ℕ → List ℕ → Stored
+left_by (Ok n) b' a = record { number = 0; image = b'; answer = n ∷ drop 1 a }
+left_by (Err x) b' a = record { number = number x; image = b'; answer = 0 ∷ drop 1 a }
+
+put_left : (t : Bool) (i b b' a : List ℕ) {r : Result ℕ Refusal} → r ≡ put_answer t i → b' ≡ cond t b (i ++ drop (length i) b)
+    → left_by r b' a ≡ left t i b a
+put_left true i b b' a e h = rw (e, h)
+put_left false i b b' a e h = rw (e, h)
+
 -- ---- an image
 
-module _ (i b b' a a' : List ℕ) (n : ℕ) where
-  written_size : (t : Bool) → cond t (Write.Refused 17) (Write.Written (length i)) ≡ Write.Written n → b' ≡ cond t b (i ++ drop (length i) b)
-      → a' ≡ n ∷ drop 1 a → record { number = 0; image = b'; answer = a' } ≡ left t i b a
-  written_size true w e h = cc
-  written_size false w e h = cc
+module _ (s : State) (b b' a : List ℕ) (f : b' ≡ buffer_after s b) where
+  pub stored_whole : (n : ℕ) → Ok n ≡ write_answer s (length b) → (a' : List ℕ) → a' ≡ n ∷ drop 1 a
+      → record { number = 0; image = b'; answer = a' } ≡ stored_as s b a
+  stored_whole n h a' k =
+      rw k (put_left (ltb (length b) (length (image_of s))) (image_of s) b b' a h f)
 
-  written_number : (t : Bool) → cond t (Write.Refused 17) (Write.Written (length i)) ≡ Write.Refused n → b' ≡ cond t b (i ++ drop (length i) b)
-      → a' ≡ 0 ∷ drop 1 a → record { number = n; image = b'; answer = a' } ≡ left t i b a
-  written_number true w e h = cc
-  written_number false w e h = cc
-
-module _ (s : State) (b b' a a' : List ℕ) (w : WriteAnswer) (n : ℕ) (h : w ≡ write_answer s (length b)) (f : b' ≡ buffer_after s b) where
-  pub stored_whole : w ≡ Write.Written n → a' ≡ n ∷ drop 1 a → record { number = 0; image = b'; answer = a' } ≡ stored_as s b a
-  stored_whole e k =
-      let i : List ℕ = image_of s in
-      written_size i b b' a a' n (ltb (length b) (length i)) (sym h ∙ e) f k
-
-  pub stored_none : w ≡ Write.Refused n → a' ≡ 0 ∷ drop 1 a → record { number = n; image = b'; answer = a' } ≡ stored_as s b a
-  stored_none e k =
-      let i : List ℕ = image_of s in
-      written_number i b b' a a' n (ltb (length b) (length i)) (sym h ∙ e) f k
+  pub stored_none : (x : Refusal) → Err x ≡ write_answer s (length b) → (a' : List ℕ) → a' ≡ 0 ∷ drop 1 a
+      → record { number = number x; image = b'; answer = a' } ≡ stored_as s b a
+  stored_none x h a' k =
+      rw k (put_left (ltb (length b) (length (image_of s))) (image_of s) b b' a h f)
 
 -- ---- a made pool
 
@@ -116,20 +117,11 @@ module _ (xs : List ℕ) (m : PoolAnswer) (f : m ≡ replayed (ltb max_text (len
 
 -- ---- a transcript
 
-module _ (i b b' a a' : List ℕ) (n : ℕ) where
-  printed_size : (t : Bool) → cond t (Answer.Refused 17) (Answer.Printed (length i)) ≡ Answer.Printed n → b' ≡ cond t b (i ++ drop (length i) b)
-      → a' ≡ n ∷ drop 1 a → record { number = 0; image = b'; answer = a' } ≡ left t i b a
-  printed_size true w e h = cc
-  printed_size false w e h = cc
+module _ (xs b b' a : List ℕ) (l : 1 ≤ length a) where
+  pub transcript_whole : (n : ℕ) → Transcribed xs b (Ok n) b' → (a' : List ℕ) → a' ≡ n ∷ drop 1 a
+      → Transcript xs b a (record { number = 0; image = b'; answer = a' })
+  transcript_whole n h a' k = answered 1 b a _ _ l (rw k (put_left (ltb (length b) room) (transcript xs) b b' a h.answer h.buffer))
 
-  printed_number : (t : Bool) → cond t (Answer.Refused 17) (Answer.Printed (length i)) ≡ Answer.Refused n → b' ≡ cond t b (i ++ drop (length i) b)
-      → a' ≡ 0 ∷ drop 1 a → record { number = n; image = b'; answer = a' } ≡ left t i b a
-  printed_number true w e h = cc
-  printed_number false w e h = cc
-
-module _ (xs b b' a a' : List ℕ) (w : TranscriptAnswer) (n : ℕ) (h : Transcribed xs b w b') (l : 1 ≤ length a) where
-  pub transcript_whole : w ≡ Answer.Printed n → a' ≡ n ∷ drop 1 a → Transcript xs b a (record { number = 0; image = b'; answer = a' })
-  transcript_whole e k = answered 1 b a _ _ l (printed_size (transcript xs) b b' a a' n (ltb (length b) room) (sym h.answer ∙ e) h.buffer k)
-
-  pub transcript_none : w ≡ Answer.Refused n → a' ≡ 0 ∷ drop 1 a → Transcript xs b a (record { number = n; image = b'; answer = a' })
-  transcript_none e k = answered 1 b a _ _ l (printed_number (transcript xs) b b' a a' n (ltb (length b) room) (sym h.answer ∙ e) h.buffer k)
+  pub transcript_none : (x : Refusal) → Transcribed xs b (Err x) b' → (a' : List ℕ) → a' ≡ 0 ∷ drop 1 a
+      → Transcript xs b a (record { number = number x; image = b'; answer = a' })
+  transcript_none x h a' k = answered 1 b a _ _ l (rw k (put_left (ltb (length b) room) (transcript xs) b b' a h.answer h.buffer))

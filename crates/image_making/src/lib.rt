@@ -1,5 +1,6 @@
 // Pools made from numbers and from a history, written as images, a check of an image, and transcripts told. Any bytes,
-// numbers and buffers get an answer; beside the answer a refused call writes nothing.
+// numbers and buffers get an answer; beside the answer a refused call writes nothing. The answer is a number, beside
+// places filled in the caller's memory, and no Result: C gets it so.
 #![tactic(auto)]
 
 ghost use Rattle.std.specs.Prelude.{◌≡◌, cond, ◌≤◌, ltb, length};
@@ -7,10 +8,8 @@ ghost use Rattle.pools.specs.Pools.{state_of, ValidPool};
 ghost use Rattle.image_making.specs.Promises.{Checked, unstored, stored_as, FreshStored, ReplayStored, Transcript};
 
 use answers::put;
-use history::TranscriptAnswer;
-use images::WriteAnswer;
 use pools::{Pool, PoolAnswer};
-use slicing::SHORT_BUFFER;
+use refusals::Refusal;
 
 // Whether the bytes are an image of a pool: 0, or 14 under 19 bytes or for another mark, 15 for another
 // version, 16 for any other fault.
@@ -26,13 +25,13 @@ fn store(pool: Pool, image: &mut [u8], answer: &mut [u64]) -> u32
     ensures { record { number = result; image = image.new; answer = answer.new } ≡ stored_as (state_of pool) image.old answer.old }
 {
     match images::store(pool, image) {
-        WriteAnswer::Written(size) => {
+        Ok(size) => {
             put(answer, [size as u64]);
             0
         }
-        WriteAnswer::Refused(refusal) => {
+        Err(refusal) => {
             put(answer, [0]);
-            refusal
+            u32::from(refusal)
         }
     }
 }
@@ -57,7 +56,7 @@ pub fn fresh(range: u64, limit: u64, image: &mut [u8], answer: &mut [u64]) -> u3
     ensures { FreshStored range limit image.old answer.old (record { number = result; image = image.new; answer = answer.new }) }
 {
     if answer.is_empty() {
-        return SHORT_BUFFER;
+        return u32::from(Refusal::ShortBuffer);
     }
     store_made(pools::fresh(range, limit), image, answer)
 }
@@ -68,7 +67,7 @@ pub fn replay(text: &[u8], image: &mut [u8], answer: &mut [u64]) -> u32
     ensures { ReplayStored text.now image.old answer.old (record { number = result; image = image.new; answer = answer.new }) }
 {
     if answer.is_empty() {
-        return SHORT_BUFFER;
+        return u32::from(Refusal::ShortBuffer);
     }
     store_made(history::pool_after(text), image, answer)
 }
@@ -78,16 +77,16 @@ pub fn transcript(text: &[u8], out: &mut [u8], answer: &mut [u64]) -> u32
     ensures { Transcript text.now out.old answer.old (record { number = result; image = out.new; answer = answer.new }) }
 {
     if answer.is_empty() {
-        return SHORT_BUFFER;
+        return u32::from(Refusal::ShortBuffer);
     }
     match history::transcript(text, out) {
-        TranscriptAnswer::Printed(printed) => {
+        Ok(printed) => {
             put(answer, [printed as u64]);
             0
         }
-        TranscriptAnswer::Refused(refusal) => {
+        Err(refusal) => {
             put(answer, [0]);
-            refusal
+            u32::from(refusal)
         }
     }
 }

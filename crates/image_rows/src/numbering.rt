@@ -3,7 +3,7 @@ ghost use Rattle.image_rows.specs.Promises.{Numbered, Shared, Reported};
 
 use crate::finding::find_on;
 use answers::put;
-use slicing::SHORT_BUFFER;
+use refusals::Refusal;
 use valid_pools::report_of;
 
 // Range, limit, number of devices, number of intervals. 17 for an answer of under four places; 14 to 16 as
@@ -12,7 +12,7 @@ pub fn numbers(image: &[u8], answer: &mut [u64]) -> u32
     ensures { Numbered image.now answer.old (record { number = result; places = answer.new }) }
 {
     if answer.len() < 4 {
-        return SHORT_BUFFER;
+        return u32::from(Refusal::ShortBuffer);
     }
     let made = images::read(image);
     if made.refusal > 0 {
@@ -38,11 +38,18 @@ pub fn share(image: &[u8], id: u64, answer: &mut [u64]) -> u32
     ensures { Shared image.now id answer.old (record { number = result; places = answer.new }) }
 {
     if answer.is_empty() {
-        return SHORT_BUFFER;
+        return u32::from(Refusal::ShortBuffer);
     }
-    let device = find_on(image, id);
-    put(answer, [device.points]);
-    device.refusal
+    match find_on(image, id) {
+        Ok(device) => {
+            put(answer, [device.points]);
+            0
+        }
+        Err(refusal) => {
+            put(answer, [0]);
+            u32::from(refusal)
+        }
+    }
 }
 
 // The report on a device: the whole number and the remainder in `answer`, and the difference. 17 for an
@@ -52,11 +59,19 @@ pub fn report(image: &[u8], id: u64, answer: &mut [u64], difference: &mut i64) -
         (record { number = result; places = answer.new; difference = difference.new }) }
 {
     if answer.len() < 2 {
-        return SHORT_BUFFER;
+        return u32::from(Refusal::ShortBuffer);
     }
-    let device = find_on(image, id);
-    let told = report_of(device);
-    put(answer, [told.whole, told.remainder]);
-    *difference = told.difference;
-    told.refusal
+    match find_on(image, id) {
+        Ok(device) => {
+            let told = report_of(device);
+            put(answer, [told.whole, told.remainder]);
+            *difference = told.difference;
+            0
+        }
+        Err(refusal) => {
+            put(answer, [0; 2]);
+            *difference = 0;
+            u32::from(refusal)
+        }
+    }
 }

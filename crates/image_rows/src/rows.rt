@@ -5,7 +5,7 @@ ghost use Rattle.image_rows.specs.Promises.{device_numbers, interval_numbers, Li
 
 use opened::Opened;
 use packed_runs::{LABELS, ROOM, blank};
-use slicing::SHORT_BUFFER;
+use refusals::Refusal;
 
 // Puts a row at place `place`.
 fn put_row(rows: &mut [u64], place: usize, row: [u64; 3])
@@ -53,14 +53,14 @@ pub fn devices(image: &[u8], rows: &mut [u64]) -> u32
     ensures { Listed device_numbers image.now rows.old (record { number = result; places = rows.new }) }
 {
     let mut table = blank();
-    let made = images::read_open(image, &mut table);
-    if made.refusal > 0 {
-        return made.refusal;
+    let opened = match images::read_open(image, &mut table) {
+        Ok(made) => made.opened,
+        Err(refusal) => return u32::from(refusal),
+    };
+    if rows.len() / 3 < opened.devices {
+        return u32::from(Refusal::ShortBuffer);
     }
-    if rows.len() / 3 < made.opened.devices {
-        return SHORT_BUFFER;
-    }
-    put_devices(made.opened, &table, rows);
+    put_devices(opened, &table, rows);
     0
 }
 
@@ -70,13 +70,13 @@ pub fn intervals(image: &[u8], rows: &mut [u64]) -> u32
     ensures { Listed interval_numbers image.now rows.old (record { number = result; places = rows.new }) }
 {
     let mut table = blank();
-    let made = images::read_open(image, &mut table);
-    if made.refusal > 0 {
-        return made.refusal;
+    let opened = match images::read_open(image, &mut table) {
+        Ok(made) => made.opened,
+        Err(refusal) => return u32::from(refusal),
+    };
+    if rows.len() / 3 < opened.intervals {
+        return u32::from(Refusal::ShortBuffer);
     }
-    if rows.len() / 3 < made.opened.intervals {
-        return SHORT_BUFFER;
-    }
-    put_intervals(made.opened, &table, rows);
+    put_intervals(opened, &table, rows);
     0
 }

@@ -4,12 +4,11 @@ use Rattle.std.proofs.lemmas.Bool.Decides.{nat_tests}
 use Rattle.image_making.proofs.StoredPools.{transcript_whole, transcript_none}
 use Rattle.image_making.proofs.transcript.Goals as goal
 
-pub returns-in-Printed : goal.returns-in-Printed
-returns-in-Printed c =
-    transcript_whole c.args.text.now c.args.out.now _ c.args.answer.now _ _ _ c.transcript.ensures (grind (arith, nat_tests))
-    c.in-Printed.is c.put.ensures
+pub returns-in-Ok : goal.returns-in-Ok
+returns-in-Ok c =
+    transcript_whole c.args.text.now c.args.out.now _ c.args.answer.now (grind (arith, nat_tests)) _ c.in-Ok.ensures _ c.put.ensures
 
-pub returns-in-Refused : goal.returns-in-Refused
-returns-in-Refused c =
-    transcript_none c.args.text.now c.args.out.now _ c.args.answer.now _ _ _ c.transcript.ensures (grind (arith, nat_tests))
-    c.in-Refused.is c.put-in-Refused.ensures
+pub returns-in-Err : goal.returns-in-Err
+returns-in-Err c =
+    rw c.from-in-Err.ensures
+    (transcript_none c.args.text.now c.args.out.now _ c.args.answer.now (grind (arith, nat_tests)) _ c.in-Err.ensures _ c.put-in-Err.ensures)

@@ -1,16 +1,20 @@
 -- `image_rows::rows::devices` meets its contract.
-use native.Mathlib.Omega.{arith}
 use Rattle.image_rows.specs.Promises.{device_numbers}
-use Rattle.image_rows.proofs.ToldPools.{listed_short, listed_told, length_device_numbers}
+use Rattle.image_rows.proofs.ToldPools.{listed_unread, listed_short, listed_told, length_device_numbers}
 use Rattle.image_rows.proofs.rows.devices.Goals as goal
 
-pub returns-then-rows-made : goal.returns-then-rows-made
-returns-then-rows-made c =
-    let h = c.read_open-made.ensures.opened (omega arith) in
-    listed_short device_numbers c.args.rows.now c.read_open-made.ensures.read c.if-made-gt0.false h.1 (length_device_numbers h.0) c.if-rows-made.true
+pub returns-in-Err : goal.returns-in-Err
+returns-in-Err c =
+    rw c.from.ensures (listed_unread device_numbers c.args.image.now c.args.rows.now _ c.in-Err.ensures.read)
+
+pub returns-then-rows-opened : goal.returns-then-rows-opened
+returns-then-rows-opened c =
+    let h = c.in-Ok.ensures.opened in
+    rw c.from-then-rows-opened.ensures
+    (listed_short device_numbers c.args.rows.now c.in-Ok.made c.in-Ok.ensures.read h.1 (length_device_numbers h.0) c.if-rows-opened.true)
 
 pub returns : goal.returns
 returns c =
-    let h = c.read_open-made.ensures.opened (omega arith) in
-    listed_told device_numbers c.args.rows.now c.read_open-made.ensures.read c.if-made-gt0.false h.1 (length_device_numbers h.0) c.if-rows-made.false
+    let h = c.in-Ok.ensures.opened in
+    listed_told device_numbers c.args.rows.now c.in-Ok.made c.in-Ok.ensures.read h.1 (length_device_numbers h.0) c.if-rows-opened.false
     c.put_devices.ensures
