@@ -15,9 +15,9 @@ fn mix_owners(x: u64, owners: &[u16; 8]) -> u64 {
 // Three copies of each of the blocks 0 to count - 1, with one pair of counters. The checksum of what
 // each lookup answers.
 #[unsafe(no_mangle)]
-pub extern "C" fn bench_lookups_run<'a>(
-    starts: &'a [u32; MAX_INTERVALS],
-    owners: &'a [u16; MAX_INTERVALS],
+pub extern "C" fn bench_lookups_run(
+    starts: &[u32; MAX_INTERVALS],
+    owners: &[u16; MAX_INTERVALS],
     intervals: usize,
     devices: usize,
     range: u64,

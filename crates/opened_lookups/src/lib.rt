@@ -59,10 +59,10 @@ fn table_of<'a>(
 
 // The owner of a point of an opened pool; answer: its id. 13 where the point is at or above the range, then 10
 // where no device is present.
-pub fn opened_owner<'a>(
-    starts: &'a [u32; MAX_INTERVALS],
-    owners: &'a [u16; MAX_INTERVALS],
-    numbers: &'a [u64; 3],
+pub fn opened_owner(
+    starts: &[u32; MAX_INTERVALS],
+    owners: &[u16; MAX_INTERVALS],
+    numbers: &[u64; 3],
     point: u64,
     answer: &mut [u64],
 ) -> u32
@@ -78,10 +78,10 @@ pub fn opened_owner<'a>(
 
 // The copies of one block of an opened pool; tally and row as of `copies`. 17 where the tally has under
 // two places or the row under ten; 11, 10 and 12 as of `copies`.
-pub fn opened_copies<'a>(
-    starts: &'a [u32; MAX_INTERVALS],
-    owners: &'a [u16; MAX_INTERVALS],
-    numbers: &'a [u64; 3],
+pub fn opened_copies(
+    starts: &[u32; MAX_INTERVALS],
+    owners: &[u16; MAX_INTERVALS],
+    numbers: &[u64; 3],
     block: u64,
     k: u64,
     tally: &mut [u32],
