@@ -1,4 +1,4 @@
-// Measures `lookups::copies_in` of crates/lookups, by way of `bench_lookups_run`, against the same steps
+// Measures `Table::copies` of crates/lookups, by way of `bench_lookups_run`, against the same steps
 // in Rust. See `run` for how this is built and called.
 //
 //   check N         both give the same checksum of the copies of N blocks

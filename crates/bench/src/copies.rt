@@ -1,6 +1,7 @@
 // For bench/lookups.
 use crate::checksums::mix;
-use lookups::Counters;
+use lookup_core::Columns;
+use lookups::{Counters, Table};
 use slicing::MAX_INTERVALS;
 
 // A checksum with the first three of a list of owners.
@@ -22,16 +23,26 @@ pub extern "C" fn bench_lookups_run<'a>(
     range: u64,
     count: u64,
 ) -> u64 {
+    let table = Table {
+        columns: Columns {
+            starts,
+            owners,
+            intervals,
+        },
+        devices,
+        range,
+    };
     let mut counters = Counters::new();
     let mut sum = 0;
     for block in 0..count {
-        let answer = lookups::copies_in(
-            starts, owners, intervals, devices, range, block, 3, counters,
-        );
+        let answer = table.copies(block, 3, counters);
         counters = answer.counters;
         sum = mix(sum, u64::from(answer.refusal));
         sum = mix_owners(sum, &answer.owners);
         sum = mix(sum, u64::from(answer.probes));
     }
-    mix(mix(sum, u64::from(counters.lookups)), u64::from(counters.probes))
+    mix(
+        mix(sum, u64::from(counters.lookups)),
+        u64::from(counters.probes),
+    )
 }

@@ -1,11 +1,6 @@
 // For bench/history.
-use history::TranscriptAnswer;
-
 // Writes the transcript of a text into `out`, and answers how many bytes it has, 0 where it is refused.
 #[unsafe(no_mangle)]
 pub extern "C" fn bench_history_run(text: &[u8], out: &mut [u8]) -> usize {
-    match history::transcript(text, &mut *out) {
-        TranscriptAnswer::Printed(n) => n,
-        TranscriptAnswer::Refused(refusal) => 0,
-    }
+    history::transcript(text, out).unwrap_or(0)
 }

@@ -22,8 +22,11 @@ use Rattle.slicing.specs.SixSteps.{move}
 use Rattle.slicing.specs.Validity.{Valid}
 use Rattle.slicing.proofs.Changes.{valid_change}
 use Rattle.placement.specs.Promises.{move_of, row_of, Answered, Changed}
-use Rattle.history_lines.specs.declared.lines.LineAnswer.{LineAnswer}
-use Rattle.history_lines.specs.declared.lines.LineAnswer.TheVariants.{Range, Add, Remove, Resize, Refused}
+use Rattle.std.specs.Prelude.{Result, Ok, Err}
+use Rattle.refusals.specs.Replies.{number}
+use Rattle.refusals.specs.declared.Refusal.{Refusal}
+use Rattle.history_lines.specs.declared.lines.HistoryLine.{HistoryLine}
+use Rattle.history_lines.specs.declared.lines.HistoryLine.TheVariants.{Range, Add, Remove, Resize}
 use Rattle.history_lines.specs.Lines.{range_outside, line_in}
 use Rattle.history_numbers.specs.Text.{line_end, split}
 use Rattle.history_lines.proofs.LineLimits.{line_fits, refused_fits, range_limits}
@@ -86,7 +89,7 @@ abbrev Behind : State → List (List ℕ) → Type 0
 Behind s ps = Follows s (calls_of_lines ps) (read_all (reading s) ps).pool (λ n. printed_lines (reading s) n ps) (λ n ts. printed_calls n ps ts)
 
 -- a line that says l in front of the lines ps
-abbrev BehindLine : State → LineAnswer → List (List ℕ) → Type 0
+abbrev BehindLine : State → Result HistoryLine Refusal → List (List ℕ) → Type 0
 BehindLine s l ps =
     Follows s (called l (calls_of_lines ps)) (read_all (applied (reading s) l).after ps).pool
     (λ n. printed_line n (applied (reading s) l) ++ printed_lines (applied (reading s) l).after (suc n) ps)
@@ -119,12 +122,12 @@ module _ (s : State) (v : Valid s) (ps : List (List ℕ)) (rest : (t : State) �
           printed = λ n. ap (λ ys. fields (n ∷ o.number ∷ o.moved ∷ o.count ∷ []) ++ ys) (r.printed (suc n));
         }
 
-  behind_line : (l : LineAnswer) → BehindLine s l ps
-  behind_line (Refused m) = refused_line (λ n. n ∷ m ∷ 0 ∷ 0 ∷ [])
-  behind_line (Range R M) = refused_line (λ n. n ∷ 3 ∷ 0 ∷ 0 ∷ [])
-  behind_line (Add d c) = change_line_lem (add d c)
-  behind_line (Remove d) = change_line_lem (remove d)
-  behind_line (Resize d c) = change_line_lem (resize d c)
+  behind_line : (l : Result HistoryLine Refusal) → BehindLine s l ps
+  behind_line (Err x) = refused_line (λ n. n ∷ number x ∷ 0 ∷ 0 ∷ [])
+  behind_line (Ok (Range R M)) = refused_line (λ n. n ∷ 3 ∷ 0 ∷ 0 ∷ [])
+  behind_line (Ok (Add d c)) = change_line_lem (add d c)
+  behind_line (Ok (Remove d)) = change_line_lem (remove d)
+  behind_line (Ok (Resize d c)) = change_line_lem (resize d c)
 
 behind : (ps : List (List ℕ)) (s : State) → Valid s → Behind s ps
 behind [] s v = record { steps = []; asked = refl; kept = tt; left = refl; printed = λ n. refl }
@@ -132,12 +135,12 @@ behind (p ∷ ps) s v = behind_line s v ps (behind ps) (line_in p)
 
 -- ---- before the range line
 
-early_line : (l : LineAnswer) → 1 ≤ early_number l → applied start l ≡ refusal start (early_number l)
-early_line (Refused n) e = refl
-early_line (Range R M) e = absurd (omega arith)
-early_line (Add d c) e = refl
-early_line (Remove d) e = refl
-early_line (Resize d c) e = refl
+early_line : (l : Result HistoryLine Refusal) → 1 ≤ early_number l → applied start l ≡ refusal start (early_number l)
+early_line (Err x) e = refl
+early_line (Ok (Range R M)) e = absurd (omega arith)
+early_line (Ok (Add d c)) e = refl
+early_line (Ok (Remove d)) e = refl
+early_line (Ok (Resize d c)) e = refl
 
 early_reading : (ps : List (List ℕ)) → Early ps → read_all start ps ≡ start
 early_reading [] e = refl
@@ -159,7 +162,7 @@ record Begun (ps : List (List ℕ)) : Type 0 where
   pub early : Early front
   pub range : ℕ
   pub limit : ℕ
-  pub ranged : line_in line ≡ Range range limit
+  pub ranged : line_in line ≡ Ok (Range range limit)
 
 data Parted (ps : List (List ℕ)) : Type 0 where
   never : Early ps → Parted ps
@@ -183,12 +186,12 @@ parted : (ps : List (List ℕ)) → Parted ps
 parted [] = never tt
 parted (p ∷ ps) = go (line_in p) refl (parted ps)
   where
-    go : (l : LineAnswer) → line_in p ≡ l → Parted ps → Parted (p ∷ ps)
-    go (Range R M) e t = begun (record { front = []; line = p; back = ps; parts = refl; early = tt; range = R; limit = M; ranged = e })
-    go (Refused n) e t = parted_front p ps (omega (arith, ap early_number e, (refused_fits p n e).0)) t
-    go (Add d c) e t = parted_front p ps (omega (arith, ap early_number e)) t
-    go (Remove d) e t = parted_front p ps (omega (arith, ap early_number e)) t
-    go (Resize d c) e t = parted_front p ps (omega (arith, ap early_number e)) t
+    go : (l : Result HistoryLine Refusal) → line_in p ≡ l → Parted ps → Parted (p ∷ ps)
+    go (Ok (Range R M)) e t = begun (record { front = []; line = p; back = ps; parts = refl; early = tt; range = R; limit = M; ranged = e })
+    go (Err x) e t = parted_front p ps (omega (arith, ap early_number e, (refused_fits p x e).0)) t
+    go (Ok (Add d c)) e t = parted_front p ps (omega (arith, ap early_number e)) t
+    go (Ok (Remove d)) e t = parted_front p ps (omega (arith, ap early_number e)) t
+    go (Ok (Resize d c)) e t = parted_front p ps (omega (arith, ap early_number e)) t
 
 -- ---- every text
 

@@ -32,14 +32,15 @@ use Rattle.slicing.specs.Runs.{one}
 use Rattle.slicing.specs.ShareRule.{share_of}
 use Rattle.slicing.proofs.Counting.{count_append}
 use Rattle.slicing_core.specs.Rows.{at, interval_rows}
-use Rattle.history_lines.specs.declared.lines.LineAnswer.{LineAnswer}
-use Rattle.history_lines.specs.declared.lines.LineAnswer.TheVariants.{Range, Add, Remove, Resize, Refused}
+use Rattle.std.specs.Prelude.{Result, Ok, Err}
+use Rattle.refusals.specs.Replies.{number}
+use Rattle.refusals.specs.declared.Refusal.{Refusal}
+use Rattle.history_lines.specs.declared.lines.HistoryLine.{HistoryLine}
+use Rattle.history_lines.specs.declared.lines.HistoryLine.TheVariants.{Range, Add, Remove, Resize}
 use Rattle.history_lines.specs.Lines.{line_in}
 use Rattle.history_numbers.specs.Text.{line_end, split}
 use Rattle.history_lines.proofs.LineLimits.{range_limits}
 use Rattle.history_printing.specs.Printing.{fields, printed_rows}
-use Rattle.history.specs.declared.transcripts.TranscriptAnswer.{TranscriptAnswer}
-use Rattle.history.specs.declared.transcripts.TranscriptAnswer.TheVariants.{Printed}
 use Rattle.history.specs.Histories.{last_of, lines_of, line_ends, unfinished}
 use Rattle.history.specs.Histories as Histories
 use Rattle.history.specs.Promises.{room, Transcribed, Left}
@@ -107,23 +108,23 @@ early_at us p vs e ys zs q = record {
 
 -- ---- lines behind it
 
-abbrev change_line : LineAnswer → Bool
-change_line (Refused n) = false
-change_line (Range R M) = false
-change_line (Add d c) = true
-change_line (Remove d) = true
-change_line (Resize d c) = true
+abbrev change_line : Result HistoryLine Refusal → Bool
+change_line (Err x) = false
+change_line (Ok (Range R M)) = false
+change_line (Ok (Add d c)) = true
+change_line (Ok (Remove d)) = true
+change_line (Ok (Resize d c)) = true
 
 abbrev pub changes_in : List (List ℕ) → ℕ
 changes_in [] = 0
 changes_in (p ∷ ps) = one (change_line (line_in p)) + changes_in ps
 
-abbrev pub Asks : LineAnswer → Change → Type 0
-Asks (Refused n) k = ⊥
-Asks (Range R M) k = ⊥
-Asks (Add d c) k = k ≡ add d c
-Asks (Remove d) k = k ≡ remove d
-Asks (Resize d c) k = k ≡ resize d c
+abbrev pub Asks : Result HistoryLine Refusal → Change → Type 0
+Asks (Err x) k = ⊥
+Asks (Ok (Range R M)) k = ⊥
+Asks (Ok (Add d c)) k = k ≡ add d c
+Asks (Ok (Remove d)) k = k ≡ remove d
+Asks (Ok (Resize d c)) k = k ≡ resize d c
 
 -- the calls that are left after the lines ps
 abbrev calls_after : List (List ℕ) → List Step → List Step
@@ -166,13 +167,13 @@ module _ (us qs : List (List ℕ))
       let r : Cut ts (calls_after us ts) (changes_in us) (calls_of_lines qs) = rest ts (cc) in
       record { earlier = t ∷ r.earlier; whole = ap (λ l. t ∷ l) r.whole; size = ap suc r.size; asked = r.asked }
 
-  cut_line : (l : LineAnswer) (ts : List Step) → calls_of ts ≡ called l (calls_of_lines (us ++ qs))
+  cut_line : (l : Result HistoryLine Refusal) (ts : List Step) → calls_of ts ≡ called l (calls_of_lines (us ++ qs))
       → Cut ts (calls_after us (calls_behind l ts)) (one (change_line l) + changes_in us) (calls_of_lines qs)
-  cut_line (Refused n) ts e = cut_size (rest ts e) (omega arith)
-  cut_line (Range R M) ts e = cut_size (rest ts e) (omega arith)
-  cut_line (Add d c) ts e = cut_size (cut_change (add d c) ts e) (omega arith)
-  cut_line (Remove d) ts e = cut_size (cut_change (remove d) ts e) (omega arith)
-  cut_line (Resize d c) ts e = cut_size (cut_change (resize d c) ts e) (omega arith)
+  cut_line (Err x) ts e = cut_size (rest ts e) (omega arith)
+  cut_line (Ok (Range R M)) ts e = cut_size (rest ts e) (omega arith)
+  cut_line (Ok (Add d c)) ts e = cut_size (cut_change (add d c) ts e) (omega arith)
+  cut_line (Ok (Remove d)) ts e = cut_size (cut_change (remove d) ts e) (omega arith)
+  cut_line (Ok (Resize d c)) ts e = cut_size (cut_change (resize d c) ts e) (omega arith)
 
 cut : (us qs : List (List ℕ)) (ts : List Step) → calls_of ts ≡ calls_of_lines (us ++ qs) → Cut ts (calls_after us ts) (changes_in us) (calls_of_lines qs)
 cut [] qs ts e = record { earlier = []; whole = refl; size = refl; asked = e }
@@ -199,8 +200,8 @@ table_listed p v = sym (table_rows_lem p v) ∙ ap (λ ys. heading ++ ys) (rows_
 
 module _ (xs : List ℕ) where
   -- a buffer with room, and at most 65,536 bytes of text
-  pub bytes_written : (before after : List ℕ) (r : TranscriptAnswer) → Transcribed xs before r after → room ≤ length before → length xs ≤ max_text
-      → (ys : List ℕ) → replayed xs ≡ ys → (r ≡ Printed (length ys)) × (after ≡ ys ++ drop (length ys) before)
+  pub bytes_written : (before after : List ℕ) (r : Result ℕ Refusal) → Transcribed xs before r after → room ≤ length before → length xs ≤ max_text
+      → (ys : List ℕ) → replayed xs ≡ ys → (r ≡ Ok (length ys)) × (after ≡ ys ++ drop (length ys) before)
   bytes_written before after r t b l ys e =
       let z = le-ltb (length before) room b in
       let q : transcript xs ≡ ys = transcript_replayed xs l ∙ e in
@@ -222,12 +223,12 @@ lent_lines : (ps : List (List ℕ)) → Lent (calls_of_lines ps)
 lent_lines [] = tt
 lent_lines (p ∷ ps) = go (line_in p) (lent_lines ps)
   where
-    go : (l : LineAnswer) → Lent (calls_of_lines ps) → Lent (called l (calls_of_lines ps))
-    go (Refused n) r = r
-    go (Range R M) r = r
-    go (Add d c) r = (refl, r)
-    go (Remove d) r = (refl, r)
-    go (Resize d c) r = (refl, r)
+    go : (l : Result HistoryLine Refusal) → Lent (calls_of_lines ps) → Lent (called l (calls_of_lines ps))
+    go (Err x) r = r
+    go (Ok (Range R M)) r = r
+    go (Ok (Add d c)) r = (refl, r)
+    go (Ok (Remove d)) r = (refl, r)
+    go (Ok (Resize d c)) r = (refl, r)
 
 lent_each : (us : List Step) (t : Step) (vs : List Step) → Lent (calls_of (us ++ t ∷ vs)) → t.lent ≡ places_lent
 lent_each [] t vs r = r.0
@@ -237,12 +238,12 @@ length_lines : (ps : List (List ℕ)) → length (calls_of_lines ps) ≡ changes
 length_lines [] = refl
 length_lines (p ∷ ps) = go (line_in p) (length_lines ps)
   where
-    go : (l : LineAnswer) → length (calls_of_lines ps) ≡ changes_in ps → length (called l (calls_of_lines ps)) ≡ one (change_line l) + changes_in ps
-    go (Refused n) r = omega arith
-    go (Range R M) r = omega arith
-    go (Add d c) r = omega arith
-    go (Remove d) r = omega arith
-    go (Resize d c) r = omega arith
+    go : (l : Result HistoryLine Refusal) → length (calls_of_lines ps) ≡ changes_in ps → length (called l (calls_of_lines ps)) ≡ one (change_line l) + changes_in ps
+    go (Err x) r = omega arith
+    go (Ok (Range R M)) r = omega arith
+    go (Ok (Add d c)) r = omega arith
+    go (Ok (Remove d)) r = omega arith
+    go (Ok (Resize d c)) r = omega arith
 
 length_calls : (ts : List Step) → length (calls_of ts) ≡ length ts
 length_calls [] = refl
@@ -293,8 +294,8 @@ module _ {xs : List ℕ} (g : Ranged xs) where
   -- ---- the promises of the calls
 
   -- `transcript` writes what is printed of each line and of the table, and answers how many bytes that is
-  pub ranged_bytes : (before after : List ℕ) (r : TranscriptAnswer) → Transcribed xs before r after → room ≤ length before → length xs ≤ max_text
-      → let ys = lines_then table in (r ≡ Printed (length ys)) × (after ≡ ys ++ drop (length ys) before)
+  pub ranged_bytes : (before after : List ℕ) (r : Result ℕ Refusal) → Transcribed xs before r after → room ≤ length before → length xs ≤ max_text
+      → let ys = lines_then table in (r ≡ Ok (length ys)) × (after ≡ ys ++ drop (length ys) before)
   ranged_bytes before after r t b l = bytes_written xs before after r t b l (lines_then table) g.printed
 
   -- `pool_after` answers the pool that the calls left
@@ -313,7 +314,7 @@ module _ {xs : List ℕ} (g : Ranged xs) where
       (g.printed ∙ (simp append_assoc) ∙ ap (λ ps. printed_early 1 ps ++ (f ++ c ++ end)) e)
 
   -- the range line, within its limits, prints zeros
-  pub range_line : (lines_of xs ≡ g.front ++ g.line ∷ g.back) × (line_in g.line ≡ Range g.range g.limit)
+  pub range_line : (lines_of xs ≡ g.front ++ g.line ∷ g.back) × (line_in g.line ≡ Ok (Range g.range g.limit))
       × ((1 ≤ g.range) × (g.range ≤ max_range) × (1 ≤ g.limit) × (g.limit ≤ max_limit))
       × PrintedAt (replayed xs) (length g.front) (suc (length g.front) ∷ 0 ∷ 0 ∷ 0 ∷ [])
   range_line = (
@@ -364,8 +365,8 @@ module _ {xs : List ℕ} (g : Ranged xs) where
         count = omega arith
 
     -- a line that is not read prints its refusal number, a second range line 3, and neither moves
-    pub other_lines : ((m : ℕ) → line_in p ≡ Refused m → PrintedAt (replayed xs) i (suc i ∷ m ∷ 0 ∷ 0 ∷ []))
-        × ((R M : ℕ) → line_in p ≡ Range R M → PrintedAt (replayed xs) i (suc i ∷ 3 ∷ 0 ∷ 0 ∷ []))
+    pub other_lines : ((x : Refusal) → line_in p ≡ Err x → PrintedAt (replayed xs) i (suc i ∷ number x ∷ 0 ∷ 0 ∷ []))
+        × ((R M : ℕ) → line_in p ≡ Ok (Range R M) → PrintedAt (replayed xs) i (suc i ∷ 3 ∷ 0 ∷ 0 ∷ []))
     other_lines = (
       λ m q. printed_as (ap (λ l. suc i ∷ numbers_of l (calls_after us g.steps)) q) numbers_printed,
       λ R M q. printed_as (ap (λ l. suc i ∷ numbers_of l (calls_after us g.steps)) q) numbers_printed,
@@ -378,13 +379,13 @@ module _ {xs : List ℕ} (g : Ranged xs) where
         c : Cut g.steps (calls_after us g.steps) (changes_in us) (calls_of_lines (p ∷ vs))
         c = cut us (p ∷ vs) g.steps (g.asked ∙ ap calls_of_lines e)
 
-        asks : (l : LineAnswer) → Asks l k → (called l (calls_of_lines vs) ≡ call_of k ∷ calls_of_lines vs)
+        asks : (l : Result HistoryLine Refusal) → Asks l k → (called l (calls_of_lines vs) ≡ call_of k ∷ calls_of_lines vs)
             × ((t : Step) (ts : List Step) → numbers_of l (t ∷ ts) ≡ t.answer.refusal ∷ t.answer.moved ∷ t.answer.count ∷ [])
-        asks (Refused n) b = absurd b
-        asks (Range R M) b = absurd b
-        asks (Add d c) b = (ap (λ j. call_of j ∷ calls_of_lines vs) (sym b), λ t ts. refl)
-        asks (Remove d) b = (ap (λ j. call_of j ∷ calls_of_lines vs) (sym b), λ t ts. refl)
-        asks (Resize d c) b = (ap (λ j. call_of j ∷ calls_of_lines vs) (sym b), λ t ts. refl)
+        asks (Err x) b = absurd b
+        asks (Ok (Range R M)) b = absurd b
+        asks (Ok (Add d c)) b = (ap (λ j. call_of j ∷ calls_of_lines vs) (sym b), λ t ts. refl)
+        asks (Ok (Remove d)) b = (ap (λ j. call_of j ∷ calls_of_lines vs) (sym b), λ t ts. refl)
+        asks (Ok (Resize d c)) b = (ap (λ j. call_of j ∷ calls_of_lines vs) (sym b), λ t ts. refl)
 
         go : (ts : List Step) → g.steps ≡ c.earlier ++ ts → calls_of ts ≡ called (line_in p) (calls_of_lines vs)
             → PrintedAt (replayed xs) i (suc i ∷ numbers_of (line_in p) ts) → CallAt g i (changes_in us) k
@@ -492,8 +493,8 @@ module _ {xs : List ℕ} (g : Unranged xs) where
   pub unranged_table : replayed xs ≡ ys
   unranged_table = g.printed
 
-  pub unranged_bytes : (before after : List ℕ) (r : TranscriptAnswer) → Transcribed xs before r after → room ≤ length before → length xs ≤ max_text
-      → (r ≡ Printed (length ys)) × (after ≡ ys ++ drop (length ys) before)
+  pub unranged_bytes : (before after : List ℕ) (r : Result ℕ Refusal) → Transcribed xs before r after → room ≤ length before → length xs ≤ max_text
+      → (r ≡ Ok (length ys)) × (after ≡ ys ++ drop (length ys) before)
   unranged_bytes before after r t b l = bytes_written xs before after r t b l ys unranged_table
 
   pub unranged_pool : (r : PoolAnswer) → Left xs r → length xs ≤ max_text → (r.refusal ≡ 0) × (r.pool ≡ pool_of (fresh 1 1))

@@ -13,13 +13,15 @@
 --   calls_of_lines ps         the change lines of ps as calls
 --   Ranged xs, Unranged xs  a text with an accepted range line, and one without
 --   HistoryDemand3 xs       what holds of a text
-use Rattle.std.specs.Prelude.{◌≡◌, false, List, [], ◌∷◌, ◌++◌, ℕ, suc, ◌≤◌, length, replicate}
+use Rattle.std.specs.Prelude.{◌≡◌, false, List, [], ◌∷◌, ◌++◌, ℕ, suc, ◌≤◌, Result, Ok, Err, length, replicate}
+use Rattle.refusals.specs.Replies.{number}
+use Rattle.refusals.specs.declared.Refusal.{Refusal}
 use Rattle.pools.specs.Pools.{state_of, pool_of}
 use Rattle.slicing.specs.Changes.{fresh, Change, add, remove, resize}
 use Rattle.slicing.specs.Ledger.{blank}
 use Rattle.placement.specs.declared.Move.{Move}
-use Rattle.history_lines.specs.declared.lines.LineAnswer.{LineAnswer}
-use Rattle.history_lines.specs.declared.lines.LineAnswer.TheVariants.{Range, Add, Remove, Resize, Refused}
+use Rattle.history_lines.specs.declared.lines.HistoryLine.{HistoryLine}
+use Rattle.history_lines.specs.declared.lines.HistoryLine.TheVariants.{Range, Add, Remove, Resize}
 use Rattle.history_lines.specs.Lines.{range_outside, line_in}
 use Rattle.history_numbers.specs.Text.{line_end, split}
 use Rattle.history_printing.specs.Printing.{fields}
@@ -32,12 +34,12 @@ use Rattle.demand3.specs.Demand3.{Demand3}
 -- ---- before the accepted range line
 
 -- '3: a change line with no range line accepted before'. A range line within its limits is accepted
-abbrev pub early_number : LineAnswer → ℕ
-early_number (Refused n) = n
-early_number (Range R M) = 0
-early_number (Add d c) = 3
-early_number (Remove d) = 3
-early_number (Resize d c) = 3
+abbrev pub early_number : Result HistoryLine Refusal → ℕ
+early_number (Err x) = number x
+early_number (Ok (Range R M)) = 0
+early_number (Ok (Add d c)) = 3
+early_number (Ok (Remove d)) = 3
+early_number (Ok (Resize d c)) = 3
 
 abbrev pub Early : List (List ℕ) → Type 0
 Early [] = Unit {0}
@@ -55,24 +57,24 @@ answered [] = []
 answered (t ∷ ts) = t.answer.refusal ∷ t.answer.moved ∷ t.answer.count ∷ []
 
 -- '3: a range line after an accepted one'
-abbrev pub numbers_of : LineAnswer → List Step → List ℕ
-numbers_of (Refused n) ts = n ∷ 0 ∷ 0 ∷ []
-numbers_of (Range R M) ts = 3 ∷ 0 ∷ 0 ∷ []
-numbers_of (Add d c) ts = answered ts
-numbers_of (Remove d) ts = answered ts
-numbers_of (Resize d c) ts = answered ts
+abbrev pub numbers_of : Result HistoryLine Refusal → List Step → List ℕ
+numbers_of (Err x) ts = number x ∷ 0 ∷ 0 ∷ []
+numbers_of (Ok (Range R M)) ts = 3 ∷ 0 ∷ 0 ∷ []
+numbers_of (Ok (Add d c)) ts = answered ts
+numbers_of (Ok (Remove d)) ts = answered ts
+numbers_of (Ok (Resize d c)) ts = answered ts
 
 -- a change line uses up a call, any other none
 abbrev pub later : List Step → List Step
 later [] = []
 later (t ∷ ts) = ts
 
-abbrev pub calls_behind : LineAnswer → List Step → List Step
-calls_behind (Refused n) ts = ts
-calls_behind (Range R M) ts = ts
-calls_behind (Add d c) ts = later ts
-calls_behind (Remove d) ts = later ts
-calls_behind (Resize d c) ts = later ts
+abbrev pub calls_behind : Result HistoryLine Refusal → List Step → List Step
+calls_behind (Err x) ts = ts
+calls_behind (Ok (Range R M)) ts = ts
+calls_behind (Ok (Add d c)) ts = later ts
+calls_behind (Ok (Remove d)) ts = later ts
+calls_behind (Ok (Resize d c)) ts = later ts
 
 abbrev pub printed_calls : ℕ → List (List ℕ) → List Step → List ℕ
 printed_calls n [] ts = []
@@ -89,12 +91,12 @@ abbrev pub call_of : Change → Call
 call_of k = record { change = k; lent = places_lent }
 
 -- a line in front of later calls
-abbrev pub called : LineAnswer → List Call → List Call
-called (Refused n) cs = cs
-called (Range R M) cs = cs
-called (Add d c) cs = call_of (add d c) ∷ cs
-called (Remove d) cs = call_of (remove d) ∷ cs
-called (Resize d c) cs = call_of (resize d c) ∷ cs
+abbrev pub called : Result HistoryLine Refusal → List Call → List Call
+called (Err x) cs = cs
+called (Ok (Range R M)) cs = cs
+called (Ok (Add d c)) cs = call_of (add d c) ∷ cs
+called (Ok (Remove d)) cs = call_of (remove d) ∷ cs
+called (Ok (Resize d c)) cs = call_of (resize d c) ∷ cs
 
 -- accepted or refused by the pool, in their order
 abbrev pub calls_of_lines : List (List ℕ) → List Call
@@ -113,7 +115,7 @@ pub record Ranged (xs : List ℕ) : Type 0 where
   pub early : Early front
   pub range : ℕ
   pub limit : ℕ
-  pub ranged : line_in line ≡ Range range limit
+  pub ranged : line_in line ≡ Ok (Range range limit)
   pub fits : range_outside range limit ≡ false
   pub steps : List Step
   pub asked : calls_of steps ≡ calls_of_lines back

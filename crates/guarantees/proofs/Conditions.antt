@@ -13,7 +13,7 @@ use native.Mathlib.Omega.{arith}
 use lib.ListN.{length}
 use Rattle.slicing.specs.Devices.{present}
 use Rattle.slicing.specs.Limits.{outside}
-use Rattle.slicing.specs.Replies.{Reply}
+use Rattle.refusals.specs.Replies.{Reply}
 use Rattle.slicing.proofs.Limits.{or_false, outside_false, within_limits}
 use Rattle.slicing_core.proofs.DeviceRows.{position_present, present_without}
 use Rattle.slicing_core.proofs.Rows.{length_device_rows}

@@ -19,9 +19,11 @@ use Rattle.pools.specs.Pools.{state_of, pool_of, ValidPool}
 use Rattle.pools.specs.declared.Pool.{Pool}
 use Rattle.pools.specs.declared.PoolAnswer.{PoolAnswer}
 use Rattle.image_numbers.specs.Format.{image_of, number_at, version_in, devices_in, column, ids_in, capacities_in, state_in, marked, Sound}
-use Rattle.images.specs.Promises.{refusal, ReadAs, unmarked, versioned, faulty, accepted, write_reply, WrittenAs}
-use Rattle.images.specs.declared.WriteAnswer.{WriteAnswer}
-use Rattle.images.specs.declared.WriteAnswer.TheVariants.{Written, Refused}
+use Rattle.std.specs.Prelude.{Result, Ok, Err}
+use Rattle.refusals.specs.Replies.{reply_of}
+use Rattle.refusals.specs.declared.Refusal.{Refusal}
+use Rattle.refusals.specs.declared.Refusal.TheVariants.{Outside, ShortBuffer}
+use Rattle.images.specs.Promises.{refusal, ReadAs, unmarked, versioned, faulty, accepted, WrittenAs}
 use Rattle.guarantees.proofs.Conditions.{Inside, Says, says}
 use Rattle.guarantees.proofs.Pools.{WithoutDevices}
 
@@ -122,22 +124,22 @@ module _ (xs : List ℕ) (r : PoolAnswer) where
           pub read_image : Sound xs → (r.refusal ≡ 0) × (r.pool ≡ pool_of (state_in xs))
           read_image h = pooled k (marked_mark xs l m) v h
 
-module _ (p : Pool) (before : List ℕ) (r : WriteAnswer) (after : List ℕ) (k : WrittenAs p before r after) where
+module _ (p : Pool) (before : List ℕ) (r : Result ℕ Refusal) (after : List ℕ) (k : WrittenAs p before r after) where
   -- a pool that is not valid: the buffer stays
-  pub write_invalid : (ValidPool p → ⊥) → (r ≡ Refused 2) × (after ≡ before) × Says (write_reply r) 2 0
+  pub write_invalid : (ValidPool p → ⊥) → (r ≡ Err Outside) × (after ≡ before) × Says (reply_of r) 2 0
   write_invalid h = ((k.invalid h).0, (k.invalid h).1, says (k.invalid_reply h))
 
   module _ (v : ValidPool p) where
     -- a buffer too short for the image stays
-    pub write_short : length before < length (image_of (state_of p)) → (r ≡ Refused 17) × (after ≡ before) × Says (write_reply r) 17 0
+    pub write_short : length before < length (image_of (state_of p)) → (r ≡ Err ShortBuffer) × (after ≡ before) × Says (reply_of r) 17 0
     write_short h =
         let e = lt-ltb (length before) (length (image_of (state_of p))) h in
         ((k.valid v).0 ∙ rw e, (k.valid v).1 ∙ rw e, says (k.reply v ∙ rw e))
 
     -- the image and its length; the bytes past it stay
     pub write_room : length (image_of (state_of p)) ≤ length before
-        → (r ≡ Written (length (image_of (state_of p)))) × (after ≡ image_of (state_of p) ++ drop (length (image_of (state_of p))) before)
-        × Says (write_reply r) 0 (length (image_of (state_of p)))
+        → (r ≡ Ok (length (image_of (state_of p)))) × (after ≡ image_of (state_of p) ++ drop (length (image_of (state_of p))) before)
+        × Says (reply_of r) 0 (length (image_of (state_of p)))
     write_room h =
         let e = le-ltb (length before) (length (image_of (state_of p))) h in
         ((k.valid v).0 ∙ rw e, (k.valid v).1 ∙ rw e, says (k.reply v ∙ rw e))

@@ -11,12 +11,12 @@ use mathlib.Core.List.{List, [], ◌∷◌}
 use Prim.Native.Nat.{ℕ}
 use lib.Dec.{eqb}
 use borrow.Author.Tests.{eqb-true, eq-eqb}
+use Rattle.std.specs.Prelude.{Option, Some, None, Ok, Err}
+use Rattle.refusals.specs.declared.Refusal.TheVariants as Refusals
 use Rattle.history_lines.specs.Lines.{same, line_in}
 use Rattle.history_numbers.specs.Text.{split, number_in, capacity_in}
-use Rattle.history_lines.specs.declared.lines.LineAnswer.{LineAnswer}
-use Rattle.history_lines.specs.declared.lines.LineAnswer.TheVariants.{Range, Add, Remove, Resize, Refused}
-use Rattle.history_numbers.specs.declared.numbers.Parsed.{Parsed}
-use Rattle.history_numbers.specs.declared.numbers.Parsed.TheVariants as Word
+use Rattle.history_lines.specs.declared.lines.HistoryLine.{HistoryLine}
+use Rattle.history_lines.specs.declared.lines.HistoryLine.TheVariants.{Range, Add, Remove, Resize}
 use Rattle.guarantees.proofs.Conditions.{Inside, inside_false, inside_true, two_inside, two_outside, Decided, within, without, one_decided, two_decided}
 
 -- the four first words
@@ -36,22 +36,22 @@ resize_bytes = 0x72 ∷ 0x65 ∷ 0x73 ∷ 0x69 ∷ 0x7a ∷ 0x65 ∷ []
 abbrev pub words : List ℕ → List (List ℕ)
 words xs = split 0x20 xs
 
-pub data Shapes (xs : List ℕ) : LineAnswer → Type 0 where
-  range_line : {a b : List ℕ} {R M : ℕ} → words xs ≡ range_bytes ∷ a ∷ b ∷ [] → number_in a ≡ Word.Number R → number_in b ≡ Word.Number M
+pub data Shapes (xs : List ℕ) : HistoryLine → Type 0 where
+  range_line : {a b : List ℕ} {R M : ℕ} → words xs ≡ range_bytes ∷ a ∷ b ∷ [] → number_in a ≡ Some R → number_in b ≡ Some M
       → Inside 4294967296 R → Inside 4096 M → Shapes xs (Range R M)
-  add_line : {a b : List ℕ} {d c : ℕ} → words xs ≡ add_bytes ∷ a ∷ b ∷ [] → number_in a ≡ Word.Number d → capacity_in b ≡ Word.Number c
+  add_line : {a b : List ℕ} {d c : ℕ} → words xs ≡ add_bytes ∷ a ∷ b ∷ [] → number_in a ≡ Some d → capacity_in b ≡ Some c
       → Inside 65535 d → Inside 16000000 c → Shapes xs (Add d c)
-  remove_line_lem : {a : List ℕ} {d : ℕ} → words xs ≡ remove_bytes ∷ a ∷ [] → number_in a ≡ Word.Number d → Inside 65535 d → Shapes xs (Remove d)
-  resize_line : {a b : List ℕ} {d c : ℕ} → words xs ≡ resize_bytes ∷ a ∷ b ∷ [] → number_in a ≡ Word.Number d → capacity_in b ≡ Word.Number c
+  remove_line_lem : {a : List ℕ} {d : ℕ} → words xs ≡ remove_bytes ∷ a ∷ [] → number_in a ≡ Some d → Inside 65535 d → Shapes xs (Remove d)
+  resize_line : {a b : List ℕ} {d c : ℕ} → words xs ≡ resize_bytes ∷ a ∷ b ∷ [] → number_in a ≡ Some d → capacity_in b ≡ Some c
       → Inside 65535 d → Inside 16000000 c → Shapes xs (Resize d c)
 
 pub data Far (xs : List ℕ) : Type 0 where
-  range_far : {a b : List ℕ} {R M : ℕ} → words xs ≡ range_bytes ∷ a ∷ b ∷ [] → number_in a ≡ Word.Number R → number_in b ≡ Word.Number M
+  range_far : {a b : List ℕ} {R M : ℕ} → words xs ≡ range_bytes ∷ a ∷ b ∷ [] → number_in a ≡ Some R → number_in b ≡ Some M
       → (Inside 4294967296 R → Inside 4096 M → ⊥) → Far xs
-  add_far : {a b : List ℕ} {d c : ℕ} → words xs ≡ add_bytes ∷ a ∷ b ∷ [] → number_in a ≡ Word.Number d → capacity_in b ≡ Word.Number c
+  add_far : {a b : List ℕ} {d c : ℕ} → words xs ≡ add_bytes ∷ a ∷ b ∷ [] → number_in a ≡ Some d → capacity_in b ≡ Some c
       → (Inside 65535 d → Inside 16000000 c → ⊥) → Far xs
-  remove_far : {a : List ℕ} {d : ℕ} → words xs ≡ remove_bytes ∷ a ∷ [] → number_in a ≡ Word.Number d → (Inside 65535 d → ⊥) → Far xs
-  resize_far : {a b : List ℕ} {d c : ℕ} → words xs ≡ resize_bytes ∷ a ∷ b ∷ [] → number_in a ≡ Word.Number d → capacity_in b ≡ Word.Number c
+  remove_far : {a : List ℕ} {d : ℕ} → words xs ≡ remove_bytes ∷ a ∷ [] → number_in a ≡ Some d → (Inside 65535 d → ⊥) → Far xs
+  resize_far : {a b : List ℕ} {d c : ℕ} → words xs ≡ resize_bytes ∷ a ∷ b ∷ [] → number_in a ≡ Some d → capacity_in b ≡ Some c
       → (Inside 65535 d → Inside 16000000 c → ⊥) → Far xs
 
 pub data Shapeless (xs : List ℕ) : Type 0 where
@@ -64,13 +64,13 @@ pub data Shapeless (xs : List ℕ) : Type 0 where
   three_words_lem : {k a b : List ℕ} → words xs ≡ k ∷ a ∷ b ∷ [] → (k ≡ range_bytes → ⊥) → (k ≡ add_bytes → ⊥) → (k ≡ resize_bytes → ⊥)
       → Shapeless xs
   -- a word that is no number, or no capacity
-  range_first : {a b : List ℕ} → words xs ≡ range_bytes ∷ a ∷ b ∷ [] → number_in a ≡ Word.Shapeless → Shapeless xs
-  range_second : {a b : List ℕ} {R : ℕ} → words xs ≡ range_bytes ∷ a ∷ b ∷ [] → number_in a ≡ Word.Number R → number_in b ≡ Word.Shapeless → Shapeless xs
-  add_first : {a b : List ℕ} → words xs ≡ add_bytes ∷ a ∷ b ∷ [] → number_in a ≡ Word.Shapeless → Shapeless xs
-  add_second : {a b : List ℕ} {d : ℕ} → words xs ≡ add_bytes ∷ a ∷ b ∷ [] → number_in a ≡ Word.Number d → capacity_in b ≡ Word.Shapeless → Shapeless xs
-  remove_only : {a : List ℕ} → words xs ≡ remove_bytes ∷ a ∷ [] → number_in a ≡ Word.Shapeless → Shapeless xs
-  resize_first : {a b : List ℕ} → words xs ≡ resize_bytes ∷ a ∷ b ∷ [] → number_in a ≡ Word.Shapeless → Shapeless xs
-  resize_second : {a b : List ℕ} {d : ℕ} → words xs ≡ resize_bytes ∷ a ∷ b ∷ [] → number_in a ≡ Word.Number d → capacity_in b ≡ Word.Shapeless
+  range_first : {a b : List ℕ} → words xs ≡ range_bytes ∷ a ∷ b ∷ [] → number_in a ≡ None → Shapeless xs
+  range_second : {a b : List ℕ} {R : ℕ} → words xs ≡ range_bytes ∷ a ∷ b ∷ [] → number_in a ≡ Some R → number_in b ≡ None → Shapeless xs
+  add_first : {a b : List ℕ} → words xs ≡ add_bytes ∷ a ∷ b ∷ [] → number_in a ≡ None → Shapeless xs
+  add_second : {a b : List ℕ} {d : ℕ} → words xs ≡ add_bytes ∷ a ∷ b ∷ [] → number_in a ≡ Some d → capacity_in b ≡ None → Shapeless xs
+  remove_only : {a : List ℕ} → words xs ≡ remove_bytes ∷ a ∷ [] → number_in a ≡ None → Shapeless xs
+  resize_first : {a b : List ℕ} → words xs ≡ resize_bytes ∷ a ∷ b ∷ [] → number_in a ≡ None → Shapeless xs
+  resize_second : {a b : List ℕ} {d : ℕ} → words xs ≡ resize_bytes ∷ a ∷ b ∷ [] → number_in a ≡ Some d → capacity_in b ≡ None
       → Shapeless xs
 
 -- ---- what the line says
@@ -106,21 +106,21 @@ same_other k l h = go (same k l) refl
     go false e = refl
 
 module _ (xs : List ℕ) where
-  pub shaped : {l : LineAnswer} → Shapes xs l → line_in xs ≡ l
+  pub shaped : {l : HistoryLine} → Shapes xs l → line_in xs ≡ Ok l
   unfolding line_in
   shaped (range_line {R = R} {M = M} w a b i j) = rw (w, a, b, two_inside 4294967296 R 4096 M i j)
   shaped (add_line {d = d} {c = c} w a b i j) = rw (w, a, b, two_inside 65535 d 16000000 c i j)
   shaped (remove_line_lem {d = d} w a i) = rw (w, a, inside_false 65535 d i)
   shaped (resize_line {d = d} {c = c} w a b i j) = rw (w, a, b, two_inside 65535 d 16000000 c i j)
 
-  pub far_two : Far xs → line_in xs ≡ Refused 2
+  pub far_two : Far xs → line_in xs ≡ Err Refusals.Outside
   unfolding line_in
   far_two (range_far {R = R} {M = M} w a b h) = rw (w, a, b, two_outside 4294967296 R 4096 M h)
   far_two (add_far {d = d} {c = c} w a b h) = rw (w, a, b, two_outside 65535 d 16000000 c h)
   far_two (remove_far {d = d} w a h) = rw (w, a, inside_true 65535 d h)
   far_two (resize_far {d = d} {c = c} w a b h) = rw (w, a, b, two_outside 65535 d 16000000 c h)
 
-  pub shapeless_one : Shapeless xs → line_in xs ≡ Refused 1
+  pub shapeless_one : Shapeless xs → line_in xs ≡ Err Refusals.Shapeless
   unfolding line_in
   shapeless_one (no_words w) = rw w
   shapeless_one (one_word w) = rw w
@@ -140,39 +140,39 @@ module _ (xs : List ℕ) where
 pub data Known (xs : List ℕ) : Type 0 where
   shapeless : Shapeless xs → Known xs
   far : Far xs → Known xs
-  said : {l : LineAnswer} → Shapes xs l → Known xs
+  said : {l : HistoryLine} → Shapes xs l → Known xs
 
 module _ (xs : List ℕ) where
-  known_range : (a b : List ℕ) → words xs ≡ range_bytes ∷ a ∷ b ∷ [] → (p : Parsed) → number_in a ≡ p → (q : Parsed) → number_in b ≡ q → Known xs
-  known_range a b w Word.Shapeless e q f = shapeless (range_first w e)
-  known_range a b w (Word.Number R) e Word.Shapeless f = shapeless (range_second w e f)
-  known_range a b w (Word.Number R) e (Word.Number M) f = go (two_decided 4294967296 R 4096 M)
+  known_range : (a b : List ℕ) → words xs ≡ range_bytes ∷ a ∷ b ∷ [] → (p : Option ℕ) → number_in a ≡ p → (q : Option ℕ) → number_in b ≡ q → Known xs
+  known_range a b w None e q f = shapeless (range_first w e)
+  known_range a b w (Some R) e None f = shapeless (range_second w e f)
+  known_range a b w (Some R) e (Some M) f = go (two_decided 4294967296 R 4096 M)
     where
       go : Decided (Inside 4294967296 R × Inside 4096 M) → Known xs
       go (within h) = said (range_line w e f h.0 h.1)
       go (without h) = far (range_far w e f (λ i j. h (i, j)))
 
-  known_add : (a b : List ℕ) → words xs ≡ add_bytes ∷ a ∷ b ∷ [] → (p : Parsed) → number_in a ≡ p → (q : Parsed) → capacity_in b ≡ q → Known xs
-  known_add a b w Word.Shapeless e q f = shapeless (add_first w e)
-  known_add a b w (Word.Number d) e Word.Shapeless f = shapeless (add_second w e f)
-  known_add a b w (Word.Number d) e (Word.Number c) f = go (two_decided 65535 d 16000000 c)
+  known_add : (a b : List ℕ) → words xs ≡ add_bytes ∷ a ∷ b ∷ [] → (p : Option ℕ) → number_in a ≡ p → (q : Option ℕ) → capacity_in b ≡ q → Known xs
+  known_add a b w None e q f = shapeless (add_first w e)
+  known_add a b w (Some d) e None f = shapeless (add_second w e f)
+  known_add a b w (Some d) e (Some c) f = go (two_decided 65535 d 16000000 c)
     where
       go : Decided (Inside 65535 d × Inside 16000000 c) → Known xs
       go (within h) = said (add_line w e f h.0 h.1)
       go (without h) = far (add_far w e f (λ i j. h (i, j)))
 
-  known_resize : (a b : List ℕ) → words xs ≡ resize_bytes ∷ a ∷ b ∷ [] → (p : Parsed) → number_in a ≡ p → (q : Parsed) → capacity_in b ≡ q → Known xs
-  known_resize a b w Word.Shapeless e q f = shapeless (resize_first w e)
-  known_resize a b w (Word.Number d) e Word.Shapeless f = shapeless (resize_second w e f)
-  known_resize a b w (Word.Number d) e (Word.Number c) f = go (two_decided 65535 d 16000000 c)
+  known_resize : (a b : List ℕ) → words xs ≡ resize_bytes ∷ a ∷ b ∷ [] → (p : Option ℕ) → number_in a ≡ p → (q : Option ℕ) → capacity_in b ≡ q → Known xs
+  known_resize a b w None e q f = shapeless (resize_first w e)
+  known_resize a b w (Some d) e None f = shapeless (resize_second w e f)
+  known_resize a b w (Some d) e (Some c) f = go (two_decided 65535 d 16000000 c)
     where
       go : Decided (Inside 65535 d × Inside 16000000 c) → Known xs
       go (within h) = said (resize_line w e f h.0 h.1)
       go (without h) = far (resize_far w e f (λ i j. h (i, j)))
 
-  known_remove : (a : List ℕ) → words xs ≡ remove_bytes ∷ a ∷ [] → (p : Parsed) → number_in a ≡ p → Known xs
-  known_remove a w Word.Shapeless e = shapeless (remove_only w e)
-  known_remove a w (Word.Number d) e = go (one_decided 65535 d)
+  known_remove : (a : List ℕ) → words xs ≡ remove_bytes ∷ a ∷ [] → (p : Option ℕ) → number_in a ≡ p → Known xs
+  known_remove a w None e = shapeless (remove_only w e)
+  known_remove a w (Some d) e = go (one_decided 65535 d)
     where
       go : Decided (Inside 65535 d) → Known xs
       go (within h) = said (remove_line_lem w e h)

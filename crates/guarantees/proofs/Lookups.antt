@@ -1,4 +1,4 @@
--- The outcomes of `lookups::point`, `owner`, `owner_of`, `owner_in`, `copies`, `copies_of` and `copies_in`. A lookup has the pool behind a shared
+-- The outcomes of `lookups::point`, `owner`, `owner_of`, `Table::owner`, `copies`, `copies_of` and `Table::copies`. A lookup has the pool behind a shared
 -- reference, or by value: it stays.
 --
 --   Fails n t c r            r answers the refusal n, eight zeros, t probes and the counters c as they were
@@ -6,11 +6,11 @@
 --   owners_of p block         who owns the point of each probe, by the table of a valid pool
 --   halved_in s o q R block   the same on arrays of any contents: the owner that halving finds
 -- point: point_late (2, a probe above 255), point_outside (2), point_inside
--- owner_in, on any contents: arrays_outside (13), arrays_none (10), arrays_owner
+-- Table::owner, on any contents: arrays_outside (13), arrays_none (10), arrays_owner
 -- owner: owner_invalid (2, a pool that is not valid), owner_outside (13), owner_none (10), owner_in (the owner of the interval that holds
--- the point, which is one: one_owner); owner_same (on the arrays of a valid pool owner_in answers as owner does)
+-- the point, which is one: one_owner); owner_same (on the arrays of a valid pool Table::owner answers as owner does)
 -- copies: copies_invalid (2), copies_outside (11), copies_none (10), copies_few (12), copies_found; copies_same (as owner_same)
--- copies_in, on any contents: lent_outside (11), lent_none (10), lent_few (12), lent_found
+-- Table::copies, on any contents: lent_outside (11), lent_none (10), lent_few (12), lent_found
 use mathlib.Core.Path.{◌≡◌, ap, ◌∙◌, sym}
 use mathlib.Core.List.{List, [], ◌∷◌, ◌++◌}
 use Prim.Native.Nat.{ℕ, ◌+◌, ◌-◌, ◌≤◌, ◌<◌, min}
@@ -28,13 +28,13 @@ use Rattle.lookup_core.specs.Probes.{point_of, choose}
 use Rattle.lookup_core.specs.Probing.{owner_of}
 use Rattle.lookup_core.proofs.Choosing.{firsts}
 use Rattle.lookups.specs.Copies.{Outcome, copies_of}
-use Rattle.lookups.specs.Promises.{point_reply, owner_reply, Located, LookedIn, Looked, Answered, CopiedIn, Copied}
+use Rattle.std.specs.Prelude.{Result, Ok, Err}
+use Rattle.refusals.specs.Replies.{reply_of}
+use Rattle.refusals.specs.declared.Refusal.{Refusal}
+use Rattle.refusals.specs.declared.Refusal.TheVariants.{Outside, NoDevice, PointOutside}
+use Rattle.lookups.specs.Promises.{Located, LookedIn, Looked, Answered, CopiedIn, Copied}
 use Rattle.lookups.specs.declared.CopiesAnswer.{CopiesAnswer}
 use Rattle.lookups.specs.declared.Counters.{Counters}
-use Rattle.lookups.specs.declared.OwnerAnswer.{OwnerAnswer}
-use Rattle.lookups.specs.declared.OwnerAnswer.TheVariants.{Owner, Refused}
-use Rattle.lookups.specs.declared.PointAnswer.{PointAnswer}
-use Rattle.lookups.specs.declared.PointAnswer.TheVariants as Point
 use Rattle.lookups.proofs.Promised.{looked_in, copied_in}
 use Rattle.demand3.specs.Points.{Lies, OneInterval}
 use Rattle.demand3.proofs.Tables.{one_interval}
@@ -43,20 +43,20 @@ use Rattle.guarantees.proofs.Conditions.{Inside, inside_false, inside_true, Says
 
 -- ---- the point of a probe
 
-module _ (block t R : ℕ) (r : PointAnswer) (k : Located block t R r) where
+module _ (block t R : ℕ) (r : Result ℕ Refusal) (k : Located block t R r) where
   -- a probe above 255
-  pub point_late : 255 < t → (r ≡ Point.Refused 2) × Says (point_reply r) 2 0
+  pub point_late : 255 < t → (r ≡ Err Outside) × Says (reply_of r) 2 0
   point_late h = let e = lt-ltb 255 t h in (k.answer ∙ rw e, says (k.reply ∙ rw e))
 
   module _ (l : t ≤ 255) where
     -- a range outside 1 to 4,294,967,296
-    pub point_outside : (Inside 4294967296 R → ⊥) → (r ≡ Point.Refused 2) × Says (point_reply r) 2 0
+    pub point_outside : (Inside 4294967296 R → ⊥) → (r ≡ Err Outside) × Says (reply_of r) 2 0
     point_outside h =
         let e = le-ltb 255 t l in
         let f = inside_true 4294967296 R h in
         (k.answer ∙ rw (e, f), says (k.reply ∙ rw (e, f)))
 
-    pub point_inside : Inside 4294967296 R → (r ≡ Point.Point (point_of block t R)) × Says (point_reply r) 0 (point_of block t R)
+    pub point_inside : Inside 4294967296 R → (r ≡ Ok (point_of block t R)) × Says (reply_of r) 0 (point_of block t R)
     point_inside i =
         let e = le-ltb 255 t l in
         let f = inside_false 4294967296 R i in
@@ -64,19 +64,19 @@ module _ (block t R : ℕ) (r : PointAnswer) (k : Located block t R r) where
 
 -- ---- the owner of a point
 
-module _ (s o : List ℕ) (q n R x : ℕ) (r : OwnerAnswer) (k : LookedIn s o q n R x r) where
-  pub arrays_outside : R ≤ x → (r ≡ Refused 13) × Says (owner_reply r) 13 0
+module _ (s o : List ℕ) (q n R x : ℕ) (r : Result ℕ Refusal) (k : LookedIn s o q n R x r) where
+  pub arrays_outside : R ≤ x → (r ≡ Err PointOutside) × Says (reply_of r) 13 0
   arrays_outside h = let e = le-leb R x h in (k.answer ∙ rw e, says (k.reply ∙ rw e))
 
   module _ (l : x < R) where
-    pub arrays_none : n ≡ 0 → (r ≡ Refused 10) × Says (owner_reply r) 10 0
+    pub arrays_none : n ≡ 0 → (r ≡ Err NoDevice) × Says (reply_of r) 10 0
     arrays_none h =
         let e = lt-leb R x l in
         let f = eq-eqb n 0 h in
         (k.answer ∙ rw (e, f), says (k.reply ∙ rw (e, f)))
 
     pub arrays_owner : 1 ≤ n
-        → (r ≡ Owner (owner_found s o (min q 4096) x)) × Says (owner_reply r) 0 (owner_found s o (min q 4096) x)
+        → (r ≡ Ok (owner_found s o (min q 4096) x)) × Says (reply_of r) 0 (owner_found s o (min q 4096) x)
     arrays_owner h =
         let e = lt-leb R x l in
         let f = ne_eqb n 0 (λ z. omega (arith, z, h)) in
@@ -89,26 +89,26 @@ one_owner p v some x l =
     one_interval p v x (owner_at (state_of p).table x)
     (rw sub-zero at (intervals_owner 0 x (state_of p).table (omega arith) (omega (arith, v.valid.covers (omega (arith, length_devices p))))))
 
-module _ (p : Pool) (x : ℕ) (r : OwnerAnswer) (k : Looked p x r) where
+module _ (p : Pool) (x : ℕ) (r : Result ℕ Refusal) (k : Looked p x r) where
   -- a pool that is not valid, before any other refusal
-  pub owner_invalid : (ValidPool p → ⊥) → (r ≡ Refused 2) × Says (owner_reply r) 2 0
+  pub owner_invalid : (ValidPool p → ⊥) → (r ≡ Err Outside) × Says (reply_of r) 2 0
   owner_invalid h = (k.invalid h, says (k.invalid_reply h))
 
   module _ (v : ValidPool p) where
     -- a point at or above R
-    pub owner_outside : p.range ≤ x → (r ≡ Refused 13) × Says (owner_reply r) 13 0
+    pub owner_outside : p.range ≤ x → (r ≡ Err PointOutside) × Says (reply_of r) 13 0
     owner_outside h = let e = le-leb p.range x h in (k.valid v ∙ rw e, says (k.reply v ∙ rw e))
 
     module _ (l : x < p.range) where
       -- no device
-      pub owner_none : p.devices ≡ 0 → (r ≡ Refused 10) × Says (owner_reply r) 10 0
+      pub owner_none : p.devices ≡ 0 → (r ≡ Err NoDevice) × Says (reply_of r) 10 0
       owner_none h =
           let e = lt-leb p.range x l in
           let f = eq-eqb p.devices 0 h in
           (k.valid v ∙ rw (e, f), says (k.reply v ∙ rw (e, f)))
 
       -- interval i holds the point
-      pub owner_in : 1 ≤ p.devices → (i : ℕ) → Lies p i x → (r ≡ Owner (at p.owners i)) × Says (owner_reply r) 0 (at p.owners i)
+      pub owner_in : 1 ≤ p.devices → (i : ℕ) → Lies p i x → (r ≡ Ok (at p.owners i)) × Says (reply_of r) 0 (at p.owners i)
       owner_in some i h =
           let e = lt-leb p.range x l in
           let f = ne_eqb p.devices 0 (λ z. omega (arith, z, some)) in
@@ -117,7 +117,7 @@ module _ (p : Pool) (x : ℕ) (r : OwnerAnswer) (k : Looked p x r) where
           (k.valid v ∙ rw (e, f, o), says (k.reply v ∙ rw (e, f, o)))
 
     -- the lookup that decides nothing, on the arrays of the same pool, answers the same
-    pub owner_same : (w : OwnerAnswer) → LookedIn p.starts p.owners p.intervals p.devices p.range x w → w ≡ r
+    pub owner_same : (w : Result ℕ Refusal) → LookedIn p.starts p.owners p.intervals p.devices p.range x w → w ≡ r
     owner_same w h = (looked_in p v x w h).valid v ∙ sym (k.valid v)
 
 -- ---- copies

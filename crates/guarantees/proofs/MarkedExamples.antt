@@ -7,6 +7,9 @@ use Prim.Native.Nat.{ℕ, ◌≤◌}
 use native.Mathlib.Omega.{arith}
 use lib.ListN.{length, get_or, drop}
 use borrow.Author.Tests.{le-ltb}
+use Rattle.std.specs.Prelude.{Result, Ok, Err}
+use Rattle.refusals.specs.declared.Refusal.{Refusal}
+use Rattle.refusals.specs.declared.Refusal.TheVariants.{Shapeless, Outside}
 use Rattle.sha1_blocks.specs.Fips180.{bytes, digest}
 use Rattle.slicing.specs.Changes.{fresh, add, remove, resize}
 use Rattle.slicing.specs.Claims.{written}
@@ -18,18 +21,10 @@ use Rattle.slicing.proofs.Cases.{after, next, three_devices}
 use Rattle.pools.specs.Pools.{state_of, ValidPool}
 use Rattle.valid_pools.specs.Promises.{Shared}
 use Rattle.pools.specs.declared.Pool.{Pool}
-use Rattle.valid_pools.specs.declared.ShareAnswer.{ShareAnswer}
-use Rattle.valid_pools.specs.declared.ShareAnswer.TheVariants.{Share}
 use Rattle.lookup_core.specs.Probes.{point_of, scaled}
 use Rattle.lookups.specs.Promises.{Located}
-use Rattle.lookups.specs.declared.PointAnswer.{PointAnswer}
-use Rattle.lookups.specs.declared.PointAnswer.TheVariants.{Point}
 use Rattle.history_numbers.specs.Capacities.{CapacityRead}
-use Rattle.history_numbers.specs.declared.numbers.CapacityAnswer.{CapacityAnswer}
-use Rattle.history_numbers.specs.declared.numbers.CapacityAnswer.TheVariants.{Thousandths, Refused}
 use Rattle.history.specs.Promises.{Transcribed}
-use Rattle.history.specs.declared.transcripts.TranscriptAnswer.{TranscriptAnswer}
-use Rattle.history.specs.declared.transcripts.TranscriptAnswer.TheVariants.{Printed}
 use Rattle.history.proofs.Examples as Examples
 use Rattle.marked.proofs.Marked.{marked}
 use Rattle.guarantees.proofs.Lookups.{point_inside}
@@ -37,28 +32,28 @@ use Rattle.guarantees.proofs.Lookups.{point_inside}
 -- ---- capacities
 
 -- `3.2` is 3,200
-pub K1 : (r : CapacityAnswer) → CapacityRead (0x33 ∷ 0x2e ∷ 0x32 ∷ []) r → r ≡ Thousandths 3200
+pub K1 : (r : Result ℕ Refusal) → CapacityRead (0x33 ∷ 0x2e ∷ 0x32 ∷ []) r → r ≡ Ok 3200
 K1 r k = k.answer ∙ marked.K1
 
 -- `3,2` and `3.2e` give 1
-pub K2 : (r s : CapacityAnswer) → CapacityRead (0x33 ∷ 0x2c ∷ 0x32 ∷ []) r → CapacityRead (0x33 ∷ 0x2e ∷ 0x32 ∷ 0x65 ∷ []) s
-    → (r ≡ Refused 1) × (s ≡ Refused 1)
+pub K2 : (r s : Result ℕ Refusal) → CapacityRead (0x33 ∷ 0x2c ∷ 0x32 ∷ []) r → CapacityRead (0x33 ∷ 0x2e ∷ 0x32 ∷ 0x65 ∷ []) s
+    → (r ≡ Err Shapeless) × (s ≡ Err Shapeless)
 K2 r s k l = (k.answer ∙ marked.K2.0, l.answer ∙ marked.K2.1)
 
 -- `0.000` gives 2
-pub K3 : (r : CapacityAnswer) → CapacityRead (0x30 ∷ 0x2e ∷ 0x30 ∷ 0x30 ∷ 0x30 ∷ []) r → r ≡ Refused 2
+pub K3 : (r : Result ℕ Refusal) → CapacityRead (0x30 ∷ 0x2e ∷ 0x30 ∷ 0x30 ∷ 0x30 ∷ []) r → r ≡ Err Outside
 K3 r k = k.answer ∙ marked.K3
 
 -- `16000.000` is 16,000,000; `16000.001` gives 2 (Wish 1)
-pub K4 : (r s : CapacityAnswer) → CapacityRead (0x31 ∷ 0x36 ∷ 0x30 ∷ 0x30 ∷ 0x30 ∷ 0x2e ∷ 0x30 ∷ 0x30 ∷ 0x30 ∷ []) r
-    → CapacityRead (0x31 ∷ 0x36 ∷ 0x30 ∷ 0x30 ∷ 0x30 ∷ 0x2e ∷ 0x30 ∷ 0x30 ∷ 0x31 ∷ []) s → (r ≡ Thousandths 16000000) × (s ≡ Refused 2)
+pub K4 : (r s : Result ℕ Refusal) → CapacityRead (0x31 ∷ 0x36 ∷ 0x30 ∷ 0x30 ∷ 0x30 ∷ 0x2e ∷ 0x30 ∷ 0x30 ∷ 0x30 ∷ []) r
+    → CapacityRead (0x31 ∷ 0x36 ∷ 0x30 ∷ 0x30 ∷ 0x30 ∷ 0x2e ∷ 0x30 ∷ 0x30 ∷ 0x31 ∷ []) s → (r ≡ Ok 16000000) × (s ≡ Err Outside)
 K4 r s k l = (k.answer ∙ marked.K4.0, l.answer ∙ marked.K4.1)
 
 -- ---- shares
 
 -- R = 100, three equal: shares 34, 33, 33
 pub K5 : (p : Pool) → ValidPool p → (state_of p).range ≡ 100 → (state_of p).devices ≡ three_devices
-    → (r s t : ShareAnswer) → Shared p 1 r → Shared p 2 s → Shared p 3 t → (r ≡ Share 34) × (s ≡ Share 33) × (t ≡ Share 33)
+    → (r s t : Result ℕ Refusal) → Shared p 1 r → Shared p 2 s → Shared p 3 t → (r ≡ Ok 34) × (s ≡ Ok 33) × (t ≡ Ok 33)
 K5 p v e f r s t k l m =
     let a = marked.K5 in
     (k.valid v ∙ rw (e, f, a), l.valid v ∙ rw (e, f, a), m.valid v ∙ rw (e, f, a))
@@ -101,13 +96,13 @@ abbrev pub hashed : ℕ → ℕ → ℕ
 hashed block t = get_or (digest (bytes 8 block ++ bytes 4 t)) 0 0
 
 -- R = 100: h = 2,147,483,648 is point 50, h = 4,294,967,295 is 99
-pub K12 : (block t : ℕ) (r : PointAnswer) → t ≤ 255 → Located block t 100 r
-    → (hashed block t ≡ 2147483648 → r ≡ Point 50) × (hashed block t ≡ 4294967295 → r ≡ Point 99)
+pub K12 : (block t : ℕ) (r : Result ℕ Refusal) → t ≤ 255 → Located block t 100 r
+    → (hashed block t ≡ 2147483648 → r ≡ Ok 50) × (hashed block t ≡ 4294967295 → r ≡ Ok 99)
 unfolding point_of
 K12 block t r l k =
     let a = (point_inside block t 100 r k l (omega arith, omega arith)).0 in (
-      (λ h. a ∙ ap Point (ap (λ x. scaled x 100) h ∙ marked.K12.0)),
-      (λ h. a ∙ ap Point (ap (λ x. scaled x 100) h ∙ marked.K12.1)),
+      (λ h. a ∙ ap (λ y. Ok y) (ap (λ x. scaled x 100) h ∙ marked.K12.0)),
+      (λ h. a ∙ ap (λ y. Ok y) (ap (λ x. scaled x 100) h ∙ marked.K12.1)),
     )
 
 -- ---- the example of document 01, 'History text'
@@ -156,18 +151,18 @@ unfinished_printed =
     0x32 ∷ 0x20 ∷ 0x31 ∷ 0x20 ∷ 0x30 ∷ 0x20 ∷ 0x30 ∷ 0x0a ∷
     0x74 ∷ 0x61 ∷ 0x62 ∷ 0x6c ∷ 0x65 ∷ 0x0a ∷ []
 
-module _ (before : List ℕ) (r : TranscriptAnswer) (after : List ℕ) (l : 3145728 ≤ length before) where
-  pub example_printed_lem : Transcribed example_text before r after → (r ≡ Printed 95) × (after ≡ example_printed ++ drop 95 before)
+module _ (before : List ℕ) (r : Result ℕ Refusal) (after : List ℕ) (l : 3145728 ≤ length before) where
+  pub example_printed_lem : Transcribed example_text before r after → (r ≡ Ok 95) × (after ≡ example_printed ++ drop 95 before)
   example_printed_lem k =
       let e = le-ltb (length before) 3145728 l in
       (k.answer ∙ rw (e, Examples.printed), k.buffer ∙ rw (e, Examples.printed))
 
-  pub empty_printed : Transcribed [] before r after → (r ≡ Printed 6) × (after ≡ table_printed ++ drop 6 before)
+  pub empty_printed : Transcribed [] before r after → (r ≡ Ok 6) × (after ≡ table_printed ++ drop 6 before)
   empty_printed k =
       let e = le-ltb (length before) 3145728 l in
       (k.answer ∙ rw (e, Examples.none), k.buffer ∙ rw (e, Examples.none))
 
-  pub unfinished_printed_lem : Transcribed unfinished_text before r after → (r ≡ Printed 22) × (after ≡ unfinished_printed ++ drop 22 before)
+  pub unfinished_printed_lem : Transcribed unfinished_text before r after → (r ≡ Ok 22) × (after ≡ unfinished_printed ++ drop 22 before)
   unfinished_printed_lem k =
       let e = le-ltb (length before) 3145728 l in
       (k.answer ∙ rw (e, Examples.unfinished), k.buffer ∙ rw (e, Examples.unfinished))

@@ -12,11 +12,13 @@ use Rattle.slicing.specs.ShareRule.{share_of}
 use Rattle.slicing_core.specs.Stages.{Decides}
 use Rattle.pools.specs.Pools.{state_of, pool_of, ValidPool}
 use Rattle.pools.specs.Promises.{Fresh}
-use Rattle.valid_pools.specs.Promises.{share_reply, Shared}
+use Rattle.std.specs.Prelude.{Result, Ok, Err}
+use Rattle.refusals.specs.Replies.{reply_of}
+use Rattle.refusals.specs.declared.Refusal.{Refusal}
+use Rattle.refusals.specs.declared.Refusal.TheVariants.{Outside, Absent}
+use Rattle.valid_pools.specs.Promises.{Shared}
 use Rattle.pools.specs.declared.Pool.{Pool}
 use Rattle.pools.specs.declared.PoolAnswer.{PoolAnswer}
-use Rattle.valid_pools.specs.declared.ShareAnswer.{ShareAnswer}
-use Rattle.valid_pools.specs.declared.ShareAnswer.TheVariants.{Share, Refused}
 use Rattle.demand3.specs.Points.{Listed}
 use Rattle.guarantees.proofs.Conditions.{Inside, inside_false, inside_true, two_inside, two_outside, Decided, within, without, Says, says, listed_present, unlisted_absent}
 
@@ -54,26 +56,26 @@ pub valid_decided : (p : Pool) (r : Bool) → Decides r (ValidPool p) → Decide
 valid_decided p true k = within k
 valid_decided p false k = without k
 
-module _ (p : Pool) (id : ℕ) (r : ShareAnswer) (k : Shared p id r) where
+module _ (p : Pool) (id : ℕ) (r : Result ℕ Refusal) (k : Shared p id r) where
   -- a pool that is not valid
-  pub share_invalid : (ValidPool p → ⊥) → (r ≡ Refused 2) × Says (share_reply r) 2 0
+  pub share_invalid : (ValidPool p → ⊥) → (r ≡ Err Outside) × Says (reply_of r) 2 0
   share_invalid h = (k.invalid h, says (k.invalid_reply h))
 
   module _ (v : ValidPool p) where
     -- an id outside 1 to 65,535
-    pub share_outside : (Inside 65535 id → ⊥) → (r ≡ Refused 2) × Says (share_reply r) 2 0
+    pub share_outside : (Inside 65535 id → ⊥) → (r ≡ Err Outside) × Says (reply_of r) 2 0
     share_outside h = let e = inside_true 65535 id h in (k.valid v ∙ rw e, says (k.reply v ∙ rw e))
 
     module _ (i : Inside 65535 id) where
       -- an id that the pool does not list
-      pub share_absent : (Listed p id → ⊥) → (r ≡ Refused 5) × Says (share_reply r) 5 0
+      pub share_absent : (Listed p id → ⊥) → (r ≡ Err Absent) × Says (reply_of r) 5 0
       share_absent h =
           let e = inside_false 65535 id i in
           let f = unlisted_absent p id h in
           (k.valid v ∙ rw (e, f), says (k.reply v ∙ rw (e, f)))
 
       pub share_present : Listed p id
-          → (r ≡ Share (share_of p.range (state_of p).devices id)) × Says (share_reply r) 0 (share_of p.range (state_of p).devices id)
+          → (r ≡ Ok (share_of p.range (state_of p).devices id)) × Says (reply_of r) 0 (share_of p.range (state_of p).devices id)
       unfolding state_of
       share_present h =
           let e = inside_false 65535 id i in

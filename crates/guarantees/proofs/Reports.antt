@@ -2,7 +2,7 @@
 --
 --   row_report p i       the report on the device at row i of the pool p
 --   sum_of_rows f i n     the sum of f over n rows from i on
--- report: report_invalid (2), report_outside (2), report_absent (5), report_row (the device at a row); report_division (whole number and
+-- report: report_invalid (2), report_outside (2), report_absent (5), report_row, report_accepted (the device at a row); report_division (whole number and
 --   remainder are R × c divided by C)
 -- the claims: even_zero, even_sum, even_between
 -- pools: three_equal_lem (K5's), exactly_due (a remainder of 0 with a difference)
@@ -18,7 +18,7 @@ use lib.IntN.{ℤ, pos, negsuc, neg_ℤ, ◌+ℤ◌, ◌-ℤ◌}
 use lib.ListN.{length, drop}
 use lib.Signed.{◌<ℤ◌}
 use Rattle.slicing.specs.Devices.{Device, device, capacities, present, capacity_of, Rising}
-use Rattle.slicing.specs.Reports.{report_of, report, differences}
+use Rattle.slicing.specs.Reports.{Report, report_of, report, no_report, differences}
 use Rattle.slicing.specs.ShareRule.{share_of}
 use Rattle.slicing.proofs.Cases.{many, three_devices, report_three, report_reverse}
 use Rattle.slicing.proofs.Devices.{rising_some, capacity_of_member}
@@ -28,8 +28,12 @@ use Rattle.slicing_core.proofs.DeviceRows.{position_present, capacity_of_row, as
 use Rattle.slicing_core.proofs.Rows.{length_device_rows}
 use Rattle.pools.specs.Pools.{state_of, ValidPool}
 use Rattle.pools.specs.declared.Pool.{Pool}
-use Rattle.valid_pools.specs.Promises.{report_as, Reported}
-use Rattle.valid_pools.specs.declared.ReportAnswer.{ReportAnswer}
+use Rattle.std.specs.Prelude.{Result, Ok, Err}
+use Rattle.refusals.specs.Replies.{number}
+use Rattle.refusals.specs.declared.Refusal as Refusals
+use Rattle.refusals.specs.declared.Refusal.TheVariants.{Outside, Absent}
+use Rattle.valid_pools.specs.Promises.{told, report_reply, Reported}
+use Rattle.valid_pools.specs.declared.DeviceReport.{DeviceReport}
 use Rattle.image_numbers.specs.Format.{range_in, devices_in, ids_in, capacities_in, state_in, Image}
 use Rattle.image_rows.specs.Promises as Rows
 use Rattle.image_rows.specs.Promises.{ReportLeft, report_told}
@@ -42,31 +46,38 @@ abbrev pub sum_of_capacities : Pool → ℕ
 sum_of_capacities p = capacities (state_of p).devices
 
 -- the report on the device at row i: R × c / C as a whole number, its remainder, share × C − R × c
-abbrev pub row_report : Pool → ℕ → ReportAnswer
+abbrev pub row_report : Pool → ℕ → Report
 row_report p i = record {
-  refusal = 0;
+  number = 0;
   whole = p.range * at p.capacities i / sum_of_capacities p;
   remainder = p.range * at p.capacities i % sum_of_capacities p;
   difference = pos (share_of p.range (state_of p).devices (at p.ids i) * sum_of_capacities p) -ℤ pos (p.range * at p.capacities i);
 }
 
--- a refusal: the number, and zeros
-abbrev pub Refusal : ℕ → ReportAnswer → Type 0
-Refusal n r = r ≡ record { refusal = n; whole = 0; remainder = 0; difference = pos 0 }
+-- the answer to a call for a report
+abbrev pub Answer : Type 0
+Answer = Result DeviceReport Refusals.Refusal
 
-module _ (p : Pool) (id : ℕ) (r : ReportAnswer) (k : Reported p id r) where
+-- a refusal: its number, and zeros
+abbrev pub Refusal : Refusals.Refusal → Answer → Type 0
+Refusal e r = (r ≡ Err e) × (report_reply r ≡ record { number = number e; whole = 0; remainder = 0; difference = pos 0 })
+
+module _ (p : Pool) (id : ℕ) (r : Answer) (k : Reported p id r) where
   -- a pool that is not valid
-  pub report_invalid : (ValidPool p → ⊥) → Refusal 2 r
-  report_invalid h = k.invalid h
+  pub report_invalid : (ValidPool p → ⊥) → Refusal Outside r
+  report_invalid h = (k.invalid h, k.invalid_reply h)
 
   module _ (v : ValidPool p) where
     -- an id outside 1 to 65,535
-    pub report_outside : (Inside 65535 id → ⊥) → Refusal 2 r
-    report_outside h = k.valid v ∙ rw (inside_true 65535 id h)
+    pub report_outside : (Inside 65535 id → ⊥) → Refusal Outside r
+    report_outside h = let e = inside_true 65535 id h in (k.valid v ∙ rw e, k.reply v ∙ rw e)
 
     -- an id that the pool does not list
-    pub report_absent : Inside 65535 id → (Listed p id → ⊥) → Refusal 5 r
-    report_absent i h = k.valid v ∙ rw (inside_false 65535 id i, unlisted_absent p id h)
+    pub report_absent : Inside 65535 id → (Listed p id → ⊥) → Refusal Absent r
+    report_absent i h =
+        let e = inside_false 65535 id i in
+        let f = unlisted_absent p id h in
+        (k.valid v ∙ rw (e, f), k.reply v ∙ rw (e, f))
 
 -- ---- the device at a row of two arrays, as a pool value and an image have them
 
@@ -88,7 +99,7 @@ module _ (d c : List ℕ) (n : ℕ) (rising : Rising 0 (device_rows d c 0 n)) (i
 
 -- ---- the device at a row of a pool
 
-module _ (p : Pool) (v : ValidPool p) (i : ℕ) (l : i < p.devices) (r : ReportAnswer) (k : Reported p (at p.ids i) r) where
+module _ (p : Pool) (v : ValidPool p) (i : ℕ) (l : i < p.devices) (r : Answer) (k : Reported p (at p.ids i) r) where
   abbrev this : Device
   this = device (at p.ids i) (at p.capacities i)
 
@@ -96,23 +107,39 @@ module _ (p : Pool) (v : ValidPool p) (i : ℕ) (l : i < p.devices) (r : ReportA
   unfolding state_of
   listed = member p.ids p.capacities p.devices v.valid.rising i l
 
-  pub report_row : r ≡ row_report p i
+  pub report_row : report_reply r ≡ row_report p i
   unfolding state_of
-  report_row = k.valid v ∙ ap report_as (row_report_lem p.ids p.capacities p.devices v.valid.rising i l p.range)
+  report_row = k.reply v ∙ row_report_lem p.ids p.capacities p.devices v.valid.rising i l p.range
 
-  pub report_division : (r.whole * sum_of_capacities p + r.remainder ≡ p.range * at p.capacities i) × (r.remainder < sum_of_capacities p)
+  -- it is not refused, and has these numbers
+  pub report_accepted : r ≡ Ok (told (row_report p i))
+  unfolding state_of
+  report_accepted =
+      let w = within_rising p.ids p.capacities p.devices v.valid.rising i l in
+      k.valid v
+      ∙ rw (
+        inside_false 65535 (at p.ids i) (w.above, w.known),
+        here p.ids p.capacities p.devices v.valid.rising i l,
+        same_capacity p.ids p.capacities p.devices v.valid.rising i l,
+      )
+
+  -- the numbers of the report
+  abbrev pub numbers : Report
+  numbers = report_reply r
+
+  pub report_division : (numbers.whole * sum_of_capacities p + numbers.remainder ≡ p.range * at p.capacities i) × (numbers.remainder < sum_of_capacities p)
   report_division = rw report_row (
     div-add-mod' (p.range * at p.capacities i) (sum_of_capacities p),
     mod-lt (p.range * at p.capacities i) (rising_some 0 (state_of p).devices v.valid.rising listed),
   )
 
   -- 'a difference of 0 still means a remainder of 0, but not the reverse': below, exactly_due
-  pub even_zero : r.difference ≡ pos 0 → r.remainder ≡ 0
+  pub even_zero : numbers.difference ≡ pos 0 → numbers.remainder ≡ 0
   unfolding state_of
   even_zero = rw report_row (report_only p.range (state_of p).devices this)
 
   -- 'each lies strictly between −C and' n × C
-  pub even_between : (neg_ℤ (pos (sum_of_capacities p)) <ℤ r.difference) × (r.difference <ℤ pos (p.devices * sum_of_capacities p))
+  pub even_between : (neg_ℤ (pos (sum_of_capacities p)) <ℤ numbers.difference) × (numbers.difference <ℤ pos (p.devices * sum_of_capacities p))
   unfolding state_of
   even_between =
       let b = report_between p.range (state_of p).devices v.valid.rising this listed in
@@ -137,32 +164,32 @@ rows_sum R d c n rising some f h =
     ∙ reports_sum R (device_rows d c 0 n) rising (omega (arith, length_device_rows d c 0 n))
 
 -- 'The differences of all disks add up to 0'
-pub even_sum : (p : Pool) → ValidPool p → 1 ≤ p.devices → (answer : ℕ → ReportAnswer)
-    → ((i : ℕ) → i < p.devices → Reported p (at p.ids i) (answer i)) → sum_of_rows (λ i. (answer i).difference) 0 p.devices ≡ pos 0
+pub even_sum : (p : Pool) → ValidPool p → 1 ≤ p.devices → (answer : ℕ → Answer)
+    → ((i : ℕ) → i < p.devices → Reported p (at p.ids i) (answer i)) → sum_of_rows (λ i. (report_reply (answer i)).difference) 0 p.devices ≡ pos 0
 unfolding state_of
 even_sum p v some answer k =
-    rows_sum p.range p.ids p.capacities p.devices v.valid.rising some (λ i. (answer i).difference)
-    (λ i l. ap (λ (r : ReportAnswer). r.difference) (report_row p v i l (answer i) (k i l)))
+    rows_sum p.range p.ids p.capacities p.devices v.valid.rising some (λ i. (report_reply (answer i)).difference)
+    (λ i l. ap (λ (u : Report). u.difference) (report_row p v i l (answer i) (k i l)))
 
 -- ---- K5's pool: R = 100, three disks of 1.000 TB with shares 34, 33, 33
 
-abbrev due : ℤ → ReportAnswer
-due x = record { refusal = 0; whole = 33; remainder = 1000; difference = x }
+abbrev due : ℤ → Report
+due x = record { number = 0; whole = 33; remainder = 1000; difference = x }
 
 pub three_equal_lem : (p : Pool) → ValidPool p → (state_of p).range ≡ 100 → (state_of p).devices ≡ three_devices
-    → (r s t : ReportAnswer) → Reported p 1 r → Reported p 2 s → Reported p 3 t → (r ≡ due (pos 2000)) × (s ≡ due (negsuc 999)) × (t ≡ due (negsuc 999))
+    → (r s t : Answer) → Reported p 1 r → Reported p 2 s → Reported p 3 t → (report_reply r ≡ due (pos 2000)) × (report_reply s ≡ due (negsuc 999)) × (report_reply t ≡ due (negsuc 999))
 three_equal_lem p v e f r s t k l m =
     let a = report_three in (
-      k.valid v ∙ rw (e, f) (ap report_as a.0),
-      l.valid v ∙ rw (e, f) (ap report_as a.1),
-      m.valid v ∙ rw (e, f) (ap report_as a.2),
+      k.reply v ∙ rw (e, f) a.0,
+      l.reply v ∙ rw (e, f) a.1,
+      m.reply v ∙ rw (e, f) a.2,
     )
 
 -- ---- R = 4, a disk of 5 thousandths of a TB and five of 1: it is due 2 points exactly, and has all 4
 
-pub exactly_due : (p : Pool) → ValidPool p → (state_of p).range ≡ 4 → (state_of p).devices ≡ device 1 5 ∷ many 5 2 → (r : ReportAnswer) → Reported p 1 r
-    → r ≡ record { refusal = 0; whole = 2; remainder = 0; difference = pos 20 }
-exactly_due p v e f r k = k.valid v ∙ rw (e, f) (ap report_as report_reverse)
+pub exactly_due : (p : Pool) → ValidPool p → (state_of p).range ≡ 4 → (state_of p).devices ≡ device 1 5 ∷ many 5 2 → (r : Answer) → Reported p 1 r
+    → report_reply r ≡ record { number = 0; whole = 2; remainder = 0; difference = pos 20 }
+exactly_due p v e f r k = k.reply v ∙ rw (e, f) report_reverse
 
 -- ---- gorvyts_report
 

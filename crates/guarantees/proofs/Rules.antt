@@ -40,15 +40,15 @@ use Rattle.lookups.specs.CounterLists.{Lookup, Kept, accepted, probes_of, left}
 use Rattle.lookups.specs.declared.Counters.{Counters}
 use Rattle.lookups.proofs.CounterLists as Counted
 use Rattle.image_numbers.specs.Format.{image_of}
+use Rattle.std.specs.Prelude.{Result, Ok}
+use Rattle.refusals.specs.declared.Refusal.{Refusal}
 use Rattle.images.specs.Promises.{ReadAs, WrittenAs}
-use Rattle.images.specs.declared.WriteAnswer.{WriteAnswer}
-use Rattle.images.specs.declared.WriteAnswer.TheVariants.{Written}
 use Rattle.images.proofs.RoundTrips as RoundTrips
 use Rattle.slicing_core.specs.Rows.{at}
 use Rattle.history_lines.specs.Lines.{line_in}
 use Rattle.history_numbers.specs.Text.{split}
 use Rattle.history_numbers.proofs.NumberWords as NumberWords
-use Rattle.history_lines.specs.declared.lines.LineAnswer.{LineAnswer}
+use Rattle.history_lines.specs.declared.lines.HistoryLine.{HistoryLine}
 use Rattle.history_steps.specs.Steps.{Reading, start, applied}
 use Rattle.history.specs.Histories.{last_of, lines_of, text_of, Complete, line_ends, line_count, read_all, pool_after, accepted_lines, printed_lines, unfinished}
 use Rattle.history.specs.Replay.{replay, replayed, transcript, printed_table}
@@ -187,13 +187,13 @@ module _ (xs : List ℕ) (b : (i : ℕ) → at xs i < 256) (r : PoolAnswer) (a :
   read_image = (RoundTrips.accepted_valid xs r a z, RoundTrips.accepted_image xs b r a z)
 
   -- written into a buffer of its length it gives the same bytes
-  pub read_written : (buffer : List ℕ) → length buffer ≡ length xs → (w : WriteAnswer) (after : List ℕ) → WrittenAs r.pool buffer w after
-      → (w ≡ Written (length xs)) × (after ≡ xs)
+  pub read_written : (buffer : List ℕ) → length buffer ≡ length xs → (w : Result ℕ Refusal) (after : List ℕ) → WrittenAs r.pool buffer w after
+      → (w ≡ Ok (length xs)) × (after ≡ xs)
   read_written = RoundTrips.read_written xs b r a z
 
   -- .. and into any buffer with room the same bytes in front
-  pub read_written_front : (buffer : List ℕ) → length xs ≤ length buffer → (w : WriteAnswer) (after : List ℕ) → WrittenAs r.pool buffer w after
-      → (w ≡ Written (length xs)) × (after ≡ xs ++ drop (length xs) buffer)
+  pub read_written_front : (buffer : List ℕ) → length xs ≤ length buffer → (w : Result ℕ Refusal) (after : List ℕ) → WrittenAs r.pool buffer w after
+      → (w ≡ Ok (length xs)) × (after ≡ xs ++ drop (length xs) buffer)
   read_written_front = RoundTrips.read_written_front xs b r a z
 
 module _ (p : Pool) (v : ValidPool p) where
@@ -202,13 +202,13 @@ module _ (p : Pool) (v : ValidPool p) where
   image_accepted = RoundTrips.image_accepted p v
 
   -- written into a buffer with room, and read
-  pub written_read : (buffer : List ℕ) (w : WriteAnswer) (after : List ℕ) → WrittenAs p buffer w after → length (image_of (state_of p)) ≤ length buffer
+  pub written_read : (buffer : List ℕ) (w : Result ℕ Refusal) (after : List ℕ) → WrittenAs p buffer w after → length (image_of (state_of p)) ≤ length buffer
       → (r : PoolAnswer) → ReadAs (take (length (image_of (state_of p))) after) r
-      → (w ≡ Written (length (image_of (state_of p)))) × (r ≡ record { refusal = 0; pool = p })
+      → (w ≡ Ok (length (image_of (state_of p)))) × (r ≡ record { refusal = 0; pool = p })
   written_read buffer w after h = RoundTrips.written_read p v buffer w after h
 
   -- .. from as many bytes as the write answers
-  pub written_read_front : (buffer : List ℕ) (w : WriteAnswer) (after : List ℕ) → WrittenAs p buffer w after → (n : ℕ) → w ≡ Written n
+  pub written_read_front : (buffer : List ℕ) (w : Result ℕ Refusal) (after : List ℕ) → WrittenAs p buffer w after → (n : ℕ) → w ≡ Ok n
       → (r : PoolAnswer) → ReadAs (take n after) r → r ≡ record { refusal = 0; pool = p }
   written_read_front buffer w after h = RoundTrips.written_read_front p v buffer w after h
 
@@ -252,7 +252,7 @@ module _ (xs ys : List ℕ) (c : Complete xs) where
   texts_both = ReplayLaws.replayed_both xs ys c
 
 -- 'A refused line changes nothing and reading goes on.'
-pub refused_stays : (h : Reading) (l : LineAnswer) → 1 ≤ (applied h l).number → (applied h l).after ≡ h
+pub refused_stays : (h : Reading) (l : Result HistoryLine Refusal) → 1 ≤ (applied h l).number → (applied h l).after ≡ h
 refused_stays = ReplayLaws.refused_stays
 
 pub refused_dropped : (h : Reading) (ps : List (List ℕ)) (p : List ℕ) (qs : List (List ℕ)) → 1 ≤ (applied (read_all h ps) (line_in p)).number

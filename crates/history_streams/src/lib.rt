@@ -7,17 +7,15 @@ ghost use Rattle.streams.specs.Counts.{IsPrefixLen};
 ghost use Rattle.history.specs.Promises.{room};
 ghost use Rattle.history.specs.Replay.{max_text, transcript};
 
-use history::{ROOM, TranscriptAnswer};
+use history::ROOM;
 use std::io::{Error, Read, Write};
-use streams::Input;
 
 // One byte more than the longest history, so that a longer one is seen.
 pub const MOST: usize = 65537;
 
-// What became of a history. The last two say why.
+// Why a history was not printed whole.
 #[derive(Clone, Copy)]
-pub enum Outcome {
-    Printed,
+pub enum Failure {
     // Nothing was written.
     Unread(Error),
     // Some of the transcript may have been written.
@@ -44,23 +42,23 @@ fn put_transcript(text: &[u8], out: &mut [u8; ROOM]) -> usize
     ensures text { take result out.new ≡ transcript text.now }
 {
     match history::transcript(text, out) {
-        TranscriptAnswer::Printed(n) => n,
-        TranscriptAnswer::Refused(_) => 0,
+        Ok(n) => n,
+        Err(_) => 0,
     }
 }
 
 // Reads a history from input to its end, or to one byte more than the longest, and writes its transcript
 // to output. Closes neither.
-pub fn transcribe<R: Read, W: Write>(input: &mut R, output: &mut W) -> Outcome {
+pub fn transcribe<R: Read, W: Write>(input: &mut R, output: &mut W) -> Result<(), Failure> {
     let mut text = text_room();
-    let n = match streams::read_to_end(input, &mut text) {
-        Input::Read(n) => n,
-        Input::Failed(error) => return Outcome::Unread(error),
+    let size = match streams::read_to_end(input, &mut text) {
+        Ok(size) => size,
+        Err(error) => return Err(Failure::Unread(error)),
     };
     let mut out = transcript_room();
-    let size = put_transcript(&text[..n], &mut out);
-    match streams::write_all(output, &out[..size]) {
-        Ok(()) => Outcome::Printed,
-        Err(error) => Outcome::Unwritten(error),
+    let printed = put_transcript(&text[..size], &mut out);
+    match streams::write_all(output, &out[..printed]) {
+        Ok(()) => Ok(()),
+        Err(error) => Err(Failure::Unwritten(error)),
     }
 }

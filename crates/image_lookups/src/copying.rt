@@ -5,9 +5,9 @@ ghost use Rattle.pools.specs.Pools.{state_of, ValidPool};
 ghost use Rattle.image_lookups.specs.Promises.{CopiedOne, CopiedMany, rows_for, counted_for};
 
 use lookup_numbers::{ROW, counters_of, put_counters, put_refusal, put_row};
-use lookups::{Counters, copies_in};
+use lookups::{Counters, Table};
 use pools::Pool;
-use slicing::SHORT_BUFFER;
+use refusals::Refusal;
 
 // The copies of one block. The tally is two numbers, lookups and probes; the row is ten: the refusal number
 // or 0, the eight owners, the probes. 17 where the tally has under two places or the row under ten;
@@ -17,25 +17,15 @@ pub fn copies(image: &[u8], block: u64, k: u64, tally: &mut [u32], row: &mut [u3
     ensures { CopiedOne image.now block k tally.old row.old (record { number = result; tally = tally.new; rows = row.new }) }
 {
     if tally.len() < 2 || row.len() < ROW {
-        return SHORT_BUFFER;
+        return u32::from(Refusal::ShortBuffer);
     }
     let made = images::read(image);
     if made.refusal > 0 {
         put_refusal(row, made.refusal);
         return made.refusal;
     }
-    let pool = made.pool;
     let counters = counters_of(tally);
-    let answer = copies_in(
-        &pool.starts,
-        &pool.owners,
-        pool.intervals,
-        pool.devices,
-        pool.range,
-        block,
-        k,
-        counters,
-    );
+    let answer = Table::of(&made.pool).copies(block, k, counters);
     put_row(row, answer);
     put_counters(tally, answer.counters);
     answer.refusal
@@ -47,18 +37,10 @@ fn copy_many(pool: Pool, blocks: &[u64], k: u64, counters: Counters, rows: &mut 
     ensures value { result ≡ counted_for (state_of pool) k blocks.now counters }
     ensures rows { rows.new ≡ rows_for (state_of pool) k blocks.now ++ drop (10 * length blocks.now) rows.old }
 {
+    let table = Table::of(&pool);
     let mut after = counters;
     for (i, block) in blocks.iter().enumerate() {
-        let answer = copies_in(
-            &pool.starts,
-            &pool.owners,
-            pool.intervals,
-            pool.devices,
-            pool.range,
-            *block,
-            k,
-            after,
-        );
+        let answer = table.copies(*block, k, after);
         put_row(&mut rows[ROW * i..], answer);
         after = answer.counters;
     }
@@ -78,7 +60,7 @@ pub fn copies_of_many(
     ensures { CopiedMany image.now blocks.now k tally.old rows.old (record { number = result; tally = tally.new; rows = rows.new }) }
 {
     if tally.len() < 2 || rows.len() / ROW < blocks.len() {
-        return SHORT_BUFFER;
+        return u32::from(Refusal::ShortBuffer);
     }
     let made = images::read(image);
     if made.refusal > 0 {

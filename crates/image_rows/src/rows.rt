@@ -46,6 +46,7 @@ fn put_intervals(opened: Opened, table: &[u64; ROOM], rows: &mut [u64])
 
 // `devices` and `intervals` are alike but for the rows that they count and put: one function for both would
 // have to take the count and the writer as functions.
+
 // Id, capacity and share of each device, by rising id. 14 to 16 as of a read; 17 where there are too few
 // places.
 pub fn devices(image: &[u8], rows: &mut [u64]) -> u32

@@ -24,8 +24,9 @@ use Rattle.pools.specs.declared.PoolAnswer.{PoolAnswer}
 use Rattle.pools.proofs.PoolLaws.{state_of_pool_of, valid_pool_pool_of}
 use Rattle.image_numbers.specs.Format.{image_of, state_in, Image}
 use Rattle.images.specs.Promises.{ReadAs, unmarked, versioned, faulty, accepted, WrittenAs}
-use Rattle.images.specs.declared.WriteAnswer.{WriteAnswer}
-use Rattle.images.specs.declared.WriteAnswer.TheVariants.{Written, Refused}
+use Rattle.std.specs.Prelude.{Result, Ok, Err}
+use Rattle.refusals.specs.declared.Refusal.{Refusal}
+use Rattle.refusals.specs.declared.Refusal.TheVariants.{Outside, ShortBuffer}
 use Rattle.image_numbers.proofs.ByteNumbers.{Bytes}
 use Rattle.images.proofs.ImageLaws.{image_of_state_in, state_in_image_of, image_image_of, image_of_injective}
 
@@ -66,40 +67,40 @@ module _ (xs : List ℕ) (b : Bytes xs) (r : PoolAnswer) (a : ReadAs xs r) (z : 
   pub accepted_image : image_of (state_of r.pool) ≡ xs
   accepted_image = ap image_of (accepted_state xs r a z) ∙ image_of_state_in xs b (read_accepted xs r a z).image
 
-  pub read_written_front : (buffer : List ℕ) → length xs ≤ length buffer → (w : WriteAnswer) (after : List ℕ) → WrittenAs r.pool buffer w after
-      → (w ≡ Written (length xs)) × (after ≡ xs ++ drop (length xs) buffer)
+  pub read_written_front : (buffer : List ℕ) → length xs ≤ length buffer → (w : Result ℕ Refusal) (after : List ℕ) → WrittenAs r.pool buffer w after
+      → (w ≡ Ok (length xs)) × (after ≡ xs ++ drop (length xs) buffer)
   read_written_front buffer l w after h =
       let k = h.valid (accepted_valid xs r a z) in
       let e = le-ltb (length buffer) (length xs) l in
       (k.0 ∙ rw (accepted_image, e), k.1 ∙ rw (accepted_image, e))
 
-  pub read_written : (buffer : List ℕ) → length buffer ≡ length xs → (w : WriteAnswer) (after : List ℕ) → WrittenAs r.pool buffer w after
-      → (w ≡ Written (length xs)) × (after ≡ xs)
+  pub read_written : (buffer : List ℕ) → length buffer ≡ length xs → (w : Result ℕ Refusal) (after : List ℕ) → WrittenAs r.pool buffer w after
+      → (w ≡ Ok (length xs)) × (after ≡ xs)
   read_written buffer l w after h =
       let k = read_written_front buffer (omega arith) w after h in
       (k.0, k.1 ∙ rw (drop_of_length-le buffer {i = length xs} (omega arith), append-nil))
 
-module _ (p : Pool) (v : ValidPool p) (buffer : List ℕ) (w : WriteAnswer) (after : List ℕ) (h : WrittenAs p buffer w after) where
+module _ (p : Pool) (v : ValidPool p) (buffer : List ℕ) (w : Result ℕ Refusal) (after : List ℕ) (h : WrittenAs p buffer w after) where
   abbrev image : List ℕ
   image = image_of (state_of p)
 
-  pub written_front : (n : ℕ) → w ≡ Written n → take n after ≡ image
+  pub written_front : (n : ℕ) → w ≡ Ok n → take n after ≡ image
   written_front n e = go (ltb (length buffer) (length image)) refl
     where
       go : (b : Bool) → ltb (length buffer) (length image) ≡ b → take n after ≡ image
-      go true t = absurd (let f : Refused 17 ≡ Written n = sym ((h.valid v).0 ∙ rw t) ∙ e in let z : ◌≡◌ {A = ℕ} 0 1 = cc in omega arith)
+      go true t = absurd (let f : Err ShortBuffer ≡ Ok n = sym ((h.valid v).0 ∙ rw t) ∙ e in let z : ◌≡◌ {A = ℕ} 0 1 = cc in omega arith)
       go false t =
-          let f : Written (length image) ≡ Written n = sym ((h.valid v).0 ∙ rw t) ∙ e in
+          let f : Ok (length image) ≡ Ok n = sym ((h.valid v).0 ∙ rw t) ∙ e in
           let s : length image ≡ n = cc in
           ap (take n) ((h.valid v).1 ∙ rw t) ∙ take_at image (drop (length image) buffer) n s
 
-  pub written_read_front : (n : ℕ) → w ≡ Written n → (r : PoolAnswer) → ReadAs (take n after) r → r ≡ record { refusal = 0; pool = p }
+  pub written_read_front : (n : ℕ) → w ≡ Ok n → (r : PoolAnswer) → ReadAs (take n after) r → r ≡ record { refusal = 0; pool = p }
   written_read_front n e r a = image_accepted p v r (subst (λ (xs : List ℕ). ReadAs xs r) (written_front n e) a)
 
   pub written_read : length image ≤ length buffer → (r : PoolAnswer) → ReadAs (take (length image) after) r
-      → (w ≡ Written (length image)) × (r ≡ record { refusal = 0; pool = p })
+      → (w ≡ Ok (length image)) × (r ≡ record { refusal = 0; pool = p })
   written_read l r a =
-      let e : w ≡ Written (length image) = (h.valid v).0 ∙ rw (le-ltb (length buffer) (length image) l) in
+      let e : w ≡ Ok (length image) = (h.valid v).0 ∙ rw (le-ltb (length buffer) (length image) l) in
       (e, written_read_front (length image) e r a)
 
 pub images_differ : (p q : Pool) → ValidPool p → ValidPool q → image_of (state_of p) ≡ image_of (state_of q) → p ≡ q

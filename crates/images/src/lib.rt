@@ -6,12 +6,5 @@
 mod reader;
 mod writer;
 
-pub use reader::{ReadAnswer, read, read_open};
+pub use reader::{ReadPool, read, read_open};
 pub use writer::{store, write};
-
-// The answer of a write: the image's length.
-#[derive(Clone, Copy)]
-pub enum WriteAnswer {
-    Written(usize),
-    Refused(u32),
-}

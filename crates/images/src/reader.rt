@@ -1,22 +1,22 @@
 // Reading an image.
-ghost use Rattle.std.specs.Prelude.{◌≡◌, ◌+◌, ◌*◌, ◌≤◌, length};
+ghost use Rattle.std.specs.Prelude.{◌≡◌, ◌+◌, ◌*◌, ◌≤◌, IfOk, length};
 ghost use Rattle.packed_runs.specs.Words.{room};
 ghost use Rattle.opened.specs.OpenPools as OpenPools;
 ghost use Rattle.opened.specs.OpenPools.{Open};
 ghost use Rattle.pools.specs.Pools.{state_of};
 ghost use Rattle.image_numbers.specs.Format as Format;
 ghost use Rattle.image_numbers.specs.Format.{head_size, devices_in, intervals_in};
-ghost use Rattle.images.specs.Promises.{ReadAs, refusal, answer_of};
+ghost use Rattle.images.specs.Promises.{ReadAs, answer_of};
 ghost use Rattle.image_bytes.specs.RowBytes.{pool_in};
 
 use image_bytes::rows::{device_rows, interval_rows};
 use image_numbers::numbers::number;
 use image_numbers::{HEAD, MARK, ROW, VERSION};
 use opened::Opened;
-use opened::making::without_devices;
 use packed_runs::{ROOM, blank};
 use pools::{Pool, PoolAnswer, fresh};
-use slicing::{FAULTY, MAX_DEVICES, MAX_INTERVALS, OTHER_VERSION, UNMARKED};
+use refusals::Refusal;
+use slicing::{MAX_DEVICES, MAX_INTERVALS};
 use valid_pools::open_cleared;
 
 // Whether there is room for a head, and the mark.
@@ -54,64 +54,52 @@ fn described(image: &[u8], n: usize, q: usize) -> Pool
     }
 }
 
-// What a read leaves: its answer, and, where it was not refused, the pool opened.
+// The pool of an image that was read, and the same opened.
 #[derive(Clone, Copy)]
-pub struct ReadAnswer {
-    pub refusal: u32,
+pub struct ReadPool {
     pub pool: Pool,
     pub opened: Opened,
 }
 
-// A refused read: a fresh pool with R = 1 and M = 1.
-fn refused(number: u32) -> ReadAnswer
-    ensures { answer_of result ≡ refusal number }
-{
-    ReadAnswer {
-        refusal: number,
-        pool: fresh(1, 1).pool,
-        opened: without_devices(1, 1),
-    }
-}
-
 // The pool that an image describes, opened, with its table in an array. 14 under 19 bytes or for another
-// mark, 15 for another version, 16 for any other fault; then the pool has R = 1 and M = 1.
-pub fn read_open(image: &[u8], table: &mut [u64; ROOM]) -> ReadAnswer
+// mark, 15 for another version, 16 for any other fault.
+pub fn read_open(image: &[u8], table: &mut [u64; ROOM]) -> Result<ReadPool, Refusal>
     requires { length table.old ≡ room }
     ensures read { ReadAs image.now (answer_of result) }
-    ensures opened { result.refusal ≡ 0 → Open result.opened table.new × (OpenPools.state_in result.opened table.new ≡ state_of result.pool) }
+    ensures opened { IfOk result (λ r. Open r.opened table.new × (OpenPools.state_in r.opened table.new ≡ state_of r.pool)) }
     ensures table_len { length table.new ≡ room }
 {
     if !marked(image) {
-        return refused(UNMARKED);
+        return Err(Refusal::Unmarked);
     }
     if number::<2>(image, 3) != VERSION {
-        return refused(OTHER_VERSION);
+        return Err(Refusal::OtherVersion);
     }
     let n = number::<2>(image, 15) as usize;
     let q = number::<2>(image, 17) as usize;
     if n > MAX_DEVICES || q > MAX_INTERVALS || image.len() != HEAD + ROW * n + ROW * q {
-        return refused(FAULTY);
+        return Err(Refusal::Faulty);
     }
     let pool = described(image, n, q);
-    let checked = open_cleared(pool, table);
-    if !checked.valid {
-        return refused(FAULTY);
-    }
-    ReadAnswer {
-        refusal: 0,
-        pool,
-        opened: checked.opened,
-    }
+    let Some(opened) = open_cleared(pool, table) else {
+        return Err(Refusal::Faulty);
+    };
+    Ok(ReadPool { pool, opened })
 }
 
-// The pool that an image describes; refused as by `read_open`.
+// The pool that an image describes; refused as by `read_open`, with a fresh pool of R = 1 and M = 1.
 pub fn read(image: &[u8]) -> PoolAnswer
     ensures { ReadAs image.now result }
 {
     let mut table = blank();
-    let made = read_open(image, &mut table);
-    PoolAnswer {
-        refusal: made.refusal,
-        pool: made.pool,
+    match read_open(image, &mut table) {
+        Ok(made) => PoolAnswer {
+            refusal: 0,
+            pool: made.pool,
+        },
+        Err(refusal) => PoolAnswer {
+            refusal: u32::from(refusal),
+            pool: fresh(1, 1).pool,
+        },
     }
 }

@@ -35,24 +35,6 @@ fn place(starts: &[u32; MAX_INTERVALS], n: usize, point: u64) -> usize
     lo
 }
 
-// The owner of a point, by halving over the starts of n intervals. Without an interval it is 0.
-pub fn owner_found<'a>(
-    starts: &'a [u32; MAX_INTERVALS],
-    owners: &'a [u16; MAX_INTERVALS],
-    n: usize,
-    point: u64,
-) -> u64
-    ensures value { result ≡ owner_found starts.now owners.now (clamped n) point }
-    ensures upper_bound { result < 65536 }
-{
-    let most = n.min(MAX_INTERVALS);
-    if most == 0 {
-        return 0;
-    }
-    let i = place(starts, most, point);
-    u64::from(owners[i])
-}
-
 // The point of a probe: the first word of the digest of block and probe, scaled to the range.
 pub fn probe_point(block: u64, probe: u32, range: u64) -> u64
     requires { range ≤ 4294967296 }
@@ -78,37 +60,54 @@ pub struct ProbeAnswer {
     pub probes: u32,
 }
 
-// Probes for k copies of a block.
-pub fn probe_owners<'a>(
-    starts: &'a [u32; MAX_INTERVALS],
-    owners: &'a [u16; MAX_INTERVALS],
-    n: usize,
-    range: u64,
-    block: u64,
-    k: usize,
-) -> ProbeAnswer
-    requires { (1 ≤ k) × (k ≤ 8) × (range ≤ 4294967296) }
-    ensures { ProbesAnswered starts.now owners.now n range block k result }
-{
-    let mut list = [0u16; 8];
-    let mut found = 0;
-    for t in 0..PROBES {
-        let owner = owner_found(starts, owners, n, probe_point(block, t, range)) as u16;
-        if !chosen(&list, found, owner) {
-            list[found] = owner;
-            found += 1;
-            if found == k {
-                return ProbeAnswer {
-                    owners: list,
-                    found,
-                    probes: t + 1,
-                };
+// A pool's table on lent arrays, of which nothing is asked: where intervals start, who owns each, and how many
+// there are.
+#[derive(Clone, Copy)]
+pub struct Columns<'a> {
+    pub starts: &'a [u32; MAX_INTERVALS],
+    pub owners: &'a [u16; MAX_INTERVALS],
+    pub intervals: usize,
+}
+
+impl Columns<'_> {
+    // The owner of a point, by halving over the starts. Without an interval it is 0.
+    pub fn owner_found(self, point: u64) -> u64
+        ensures value { result ≡ owner_found self.entry.starts.now self.entry.owners.now (clamped self.entry.intervals) point }
+        ensures upper_bound { result < 65536 }
+    {
+        let most = self.intervals.min(MAX_INTERVALS);
+        if most == 0 {
+            return 0;
+        }
+        let i = place(self.starts, most, point);
+        u64::from(self.owners[i])
+    }
+
+    // Probes for k copies of a block.
+    pub fn probe_owners(self, range: u64, block: u64, k: usize) -> ProbeAnswer
+        requires { (1 ≤ k) × (k ≤ 8) × (range ≤ 4294967296) }
+        ensures { ProbesAnswered self.entry.starts.now self.entry.owners.now self.entry.intervals range block k result }
+    {
+        let mut list = [0u16; 8];
+        let mut found = 0;
+        for t in 0..PROBES {
+            let owner = self.owner_found(probe_point(block, t, range)) as u16;
+            if !chosen(&list, found, owner) {
+                list[found] = owner;
+                found += 1;
+                if found == k {
+                    return ProbeAnswer {
+                        owners: list,
+                        found,
+                        probes: t + 1,
+                    };
+                }
             }
         }
-    }
-    ProbeAnswer {
-        owners: list,
-        found,
-        probes: PROBES,
+        ProbeAnswer {
+            owners: list,
+            found,
+            probes: PROBES,
+        }
     }
 }

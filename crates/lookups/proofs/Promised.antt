@@ -1,8 +1,10 @@
 -- What is promised on a pool: from what is promised on its lent arrays, where it is valid, and where it is not.
 --
 -- found_valid (the owner that halving finds in a valid pool is the table's), probe_valid (and of a probe)
+-- owner_in, copies_in (on the table of arrays and numbers a lookup is one in these)
 -- looked_two, copied_two (a pool that is not valid); looked_in, copied_in (on the arrays of a valid pool the lookups that decide nothing
 -- answer as those on the pool do)
+use Rattle.std.specs.Prelude.{Result, Ok, Err}
 use mathlib.Core.Path.{◌≡◌, refl, ap, ◌∙◌, subst, fun_ext}
 use mathlib.Core.Bool.{Bool, true, false, cond}
 use mathlib.Core.List.{List}
@@ -19,15 +21,17 @@ use Rattle.pools.specs.Pools.{state_of, ValidPool}
 use Rattle.pools.specs.declared.Pool.{Pool}
 use Rattle.pools.proofs.PoolLaws.{total_table_rows}
 use Rattle.pools.proofs.ValidParts.{valid_limited, valid_covered}
+use Rattle.refusals.specs.Replies.{reply_of}
+use Rattle.refusals.specs.declared.Refusal.{Refusal}
+use Rattle.refusals.specs.declared.Refusal.TheVariants.{Outside, NoDevice, PointOutside}
 use Rattle.slicing.specs.Limits.{max_range}
 use Rattle.slicing.specs.Runs.{total, owner_at, Coalesced}
 use Rattle.slicing_core.specs.Rows.{at, table_rows}
 use Rattle.lookups.specs.Copies.{Outcome, copies_of}
-use Rattle.lookups.specs.Promises.{owner_reply, owner_answer, LookedIn, Looked, Answered, CopiedIn, Copied}
+use Rattle.lookups.specs.Promises.{TableOf, owner_answer, LookedIn, Looked, Answered, CopiedIn, Copied}
 use Rattle.lookups.specs.declared.CopiesAnswer.{CopiesAnswer}
 use Rattle.lookups.specs.declared.Counters.{Counters}
-use Rattle.lookups.specs.declared.OwnerAnswer.{OwnerAnswer}
-use Rattle.lookups.specs.declared.OwnerAnswer.TheVariants.{Owner, Refused}
+use Rattle.lookups.specs.declared.Table.{Table}
 use Rattle.lookups.proofs.CopyAnswers.{Refusing, refuses_two}
 use Rattle.lookups.proofs.Replies.{owner_reply_answer}
 
@@ -53,29 +57,40 @@ probe_valid p v h block =
     let e : min p.range max_range ≡ p.range = omega (arith, m.most) in
     rw e (fun_ext (λ t. found_valid p v h (point_of block t p.range) (point_of_below block t p.range m.some)))
 
+-- ---- on the table of arrays and numbers a lookup is one in these
+
+module _ {t : Table} {s o : List ℕ} {q n R : ℕ} (e : TableOf t s o q n R) where
+  pub owner_in : {x : ℕ} {r : Result ℕ Refusal} → LookedIn t.columns.starts.now t.columns.owners.now t.columns.intervals t.devices t.range x r
+      → LookedIn s o q n R x r
+  owner_in h = rw (e.starts, e.owners, e.intervals, e.devices, e.range) at h
+
+  pub copies_in : {block k : ℕ} {c : Counters} {r : CopiesAnswer}
+      → CopiedIn t.columns.starts.now t.columns.owners.now t.columns.intervals t.devices t.range block k c r → CopiedIn s o q n R block k c r
+  copies_in h = rw (e.starts, e.owners, e.intervals, e.devices, e.range) at h
+
 -- ---- the owner of a point
 
-looked : {p : Pool} {x : ℕ} (r : OwnerAnswer) → (ValidPool p → r ≡ owner_answer p.range p.devices x (owner_at (state_of p).table x))
-    → ((ValidPool p → ⊥) → r ≡ Refused 2) → Looked p x r
+looked : {p : Pool} {x : ℕ} (r : Result ℕ Refusal) → (ValidPool p → r ≡ owner_answer p.range p.devices x (owner_at (state_of p).table x))
+    → ((ValidPool p → ⊥) → r ≡ Err Outside) → Looked p x r
 looked {p} {x} r v i = record {
   valid = v;
-  reply = λ h. ap owner_reply (v h) ∙ owner_reply_answer p.range p.devices x (owner_at (state_of p).table x);
+  reply = λ h. ap reply_of (v h) ∙ owner_reply_answer p.range p.devices x (owner_at (state_of p).table x);
   invalid = i;
-  invalid_reply = λ h. ap owner_reply (i h);
+  invalid_reply = λ h. ap reply_of (i h);
 }
 
-pub looked_two : {p : Pool} {x : ℕ} → (ValidPool p → ⊥) → Looked p x (Refused 2)
-looked_two n = looked (Refused 2) (λ v. absurd (n v)) (λ h. refl)
+pub looked_two : {p : Pool} {x : ℕ} → (ValidPool p → ⊥) → Looked p x (Err Outside)
+looked_two n = looked (Err Outside) (λ v. absurd (n v)) (λ h. refl)
 
-pub looked_in : (p : Pool) → ValidPool p → (x : ℕ) (r : OwnerAnswer) → LookedIn p.starts p.owners p.intervals p.devices p.range x r → Looked p x r
+pub looked_in : (p : Pool) → ValidPool p → (x : ℕ) (r : Result ℕ Refusal) → LookedIn p.starts p.owners p.intervals p.devices p.range x r → Looked p x r
 looked_in p v x r k = looked r (λ h. k.answer ∙ same (leb p.range x) (eqb p.devices 0) refl refl) (λ n. absurd (n v))
   where
     same : (a b : Bool) → leb p.range x ≡ a → eqb p.devices 0 ≡ b
-        → cond a (Refused 13) (cond b (Refused 10) (Owner (owner_found p.starts p.owners (clamped p.intervals) x)))
-        ≡ cond a (Refused 13) (cond b (Refused 10) (Owner (owner_at (state_of p).table x)))
+        → cond a (Err PointOutside) (cond b (Err NoDevice) (Ok (owner_found p.starts p.owners (clamped p.intervals) x)))
+        ≡ cond a (Err PointOutside) (cond b (Err NoDevice) (Ok (owner_at (state_of p).table x)))
     same true b e f = refl
     same false true e f = refl
-    same false false e f = ap Owner (found_valid p v (omega (arith, eqb-false p.devices 0 f)) x (leb-false p.range x e))
+    same false false e f = ap Ok (found_valid p v (omega (arith, eqb-false p.devices 0 f)) x (leb-false p.range x e))
 
 -- ---- copies
 

@@ -1,25 +1,27 @@
 -- The replies of the answers, and what the answers are said to be.
 --
 -- owner_reply_answer; looked_answer (what the answer is says what its reply is)
+use Rattle.std.specs.Prelude.{Result, Ok, Err}
 use mathlib.Core.Path.{◌≡◌, refl, ap, ◌∙◌}
 use mathlib.Core.Bool.{Bool, true, false, cond}
 use mathlib.Core.List.{List}
 use Prim.Native.Nat.{ℕ}
 use lib.Dec.{eqb, leb}
+use Rattle.refusals.specs.Replies.{reply_of, replied, declined}
+use Rattle.refusals.specs.declared.Refusal.{Refusal}
+use Rattle.refusals.specs.declared.Refusal.TheVariants.{NoDevice, PointOutside}
 use Rattle.lookup_core.specs.Halving.{owner_found, clamped}
-use Rattle.slicing.specs.Replies.{replied, declined}
-use Rattle.lookups.specs.Promises.{owner_reply, owner_answer, LookedIn}
-use Rattle.lookups.specs.declared.OwnerAnswer.{OwnerAnswer}
+use Rattle.lookups.specs.Promises.{owner_answer, LookedIn}
 
-pub owner_reply_answer : (R n x d : ℕ) → owner_reply (owner_answer R n x d) ≡ cond (leb R x) (declined 13) (cond (eqb n 0) (declined 10) (replied d))
+pub owner_reply_answer : (R n x d : ℕ) → reply_of (owner_answer R n x d) ≡ cond (leb R x) (declined 13) (cond (eqb n 0) (declined 10) (replied d))
 owner_reply_answer R n x d = go (leb R x) (eqb n 0)
   where
     go : (a b : Bool)
-        → owner_reply (cond a (OwnerAnswer.Refused 13) (cond b (OwnerAnswer.Refused 10) (OwnerAnswer.Owner d)))
+        → reply_of (cond a (Err PointOutside) (cond b (Err NoDevice) (Ok d)))
         ≡ cond a (declined 13) (cond b (declined 10) (replied d))
     go true b = refl
     go false true = refl
     go false false = refl
 
-pub looked_answer : {s o : List ℕ} {q n R x : ℕ} {r : OwnerAnswer} → r ≡ owner_answer R n x (owner_found s o (clamped q) x) → LookedIn s o q n R x r
-looked_answer {n = n} {R = R} {x = x} e = record { answer = e; reply = ap owner_reply e ∙ owner_reply_answer R n x _ }
+pub looked_answer : {s o : List ℕ} {q n R x : ℕ} {r : Result ℕ Refusal} → r ≡ owner_answer R n x (owner_found s o (clamped q) x) → LookedIn s o q n R x r
+looked_answer {n = n} {R = R} {x = x} e = record { answer = e; reply = ap reply_of e ∙ owner_reply_answer R n x _ }

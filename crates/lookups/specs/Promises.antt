@@ -1,6 +1,7 @@
 -- What the offered lookups promise.
 --
 --   Located block t R r       r answers the call for the point of a probe
+--   TableOf t s o q n R       t is the table of these arrays and numbers
 --   LookedIn .., Looked p x r     r answers the call for the owner of a point, on arrays of any contents and on a pool
 --   CopiedIn .., Copied p ..      r answers the call for copies, on arrays of any contents and on a pool
 use Rattle.std.specs.Prelude.{◌≡◌, Bool, cond, ◌||◌, List, ℕ, Result, Ok, Err, min, eqb, leb, ltb}
@@ -18,6 +19,7 @@ use Rattle.lookups.specs.Copies.{Outcome, refusal, copies_of}
 use Rattle.lookups.specs.Counting.{counted}
 use Rattle.lookups.specs.declared.CopiesAnswer.{CopiesAnswer}
 use Rattle.lookups.specs.declared.Counters.{Counters}
+use Rattle.lookups.specs.declared.Table.{Table}
 
 -- ---- the point of a probe
 
@@ -28,6 +30,16 @@ probe_outside t R = ltb 255 t || outside max_range R
 pub record Located (block t R : ℕ) (r : Result ℕ Refusal) : Type 0 where
   pub answer : r ≡ cond (probe_outside t R) (Err Outside) (Ok (point_of block t R))
   pub reply : reply_of r ≡ cond (probe_outside t R) (declined 2) (replied (point_of block t R))
+
+-- ---- a table
+
+-- lent starts s and owners o, q intervals, n devices, the range R
+pub record TableOf (t : Table) (s o : List ℕ) (q n R : ℕ) : Type 0 where
+  pub starts : t.columns.starts.now ≡ s
+  pub owners : t.columns.owners.now ≡ o
+  pub intervals : t.columns.intervals ≡ q
+  pub devices : t.devices ≡ n
+  pub range : t.range ≡ R
 
 -- ---- the owner of a point
 

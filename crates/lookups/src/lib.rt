@@ -5,28 +5,14 @@
 #![tactic(auto)]
 
 ghost use Rattle.std.specs.Prelude.{◌≡◌, replicate};
-ghost use Rattle.lookups.specs.Promises.{Located, Looked, LookedIn, Copied, CopiedIn};
+ghost use Rattle.refusals.specs.Replies.{number};
+ghost use Rattle.lookups.specs.Promises.{Located, TableOf, Looked, LookedIn, Copied, CopiedIn};
 
-use lookup_core::{PROBES, owner_found, probe_owners, probe_point};
+use lookup_core::{Columns, PROBES, probe_point};
 use pools::Pool;
-use slicing::{
-    COPIES_OUTSIDE, FEW_OWNERS, MAX_INTERVALS, MAX_RANGE, NO_DEVICE, OUTSIDE, POINT_OUTSIDE,
-};
+use refusals::Refusal;
+use slicing::MAX_RANGE;
 use valid_pools::valid;
-
-// The answer of a call for the owner of a point.
-#[derive(Clone, Copy)]
-pub enum OwnerAnswer {
-    Owner(u64),
-    Refused(u32),
-}
-
-// The answer of a call for the point of a probe.
-#[derive(Clone, Copy)]
-pub enum PointAnswer {
-    Point(u64),
-    Refused(u32),
-}
 
 // Accepted lookups of copies and their probes (document 01's tally). Both stay at 4,294,967,295.
 #[derive(Clone, Copy, Default)]
@@ -46,6 +32,7 @@ impl Counters {
 
 // The answer of a call for copies: the refusal number or 0, the owners in the order chosen and then
 // zeros, the probes made, and the counters afterwards.
+// A number and no `Result`: document 01 lets a refusal answer 256 tries, and the counters go back in either case.
 #[derive(Clone, Copy)]
 pub struct CopiesAnswer {
     pub refusal: u32,
@@ -56,102 +43,106 @@ pub struct CopiesAnswer {
 
 // The point of a probe (document 01's try). 2 where the probe is above 255 or the range not within 1 to
 // 4,294,967,296.
-pub fn point(block: u64, probe: u64, range: u64) -> PointAnswer
+pub fn point(block: u64, probe: u64, range: u64) -> Result<u64, Refusal>
     ensures { Located block probe range result }
 {
     if probe > 255 || range < 1 || range > MAX_RANGE {
-        return PointAnswer::Refused(OUTSIDE);
+        Err(Refusal::Outside)
+    } else {
+        Ok(probe_point(block, probe as u32, range))
     }
-    PointAnswer::Point(probe_point(block, probe as u32, range))
 }
 
-// The owner of a point, on the lent arrays of a pool: for callers that make many lookups. 13 where the
-// point is at or above the range, then 10 where no device is present.
-pub fn owner_in<'a>(
-    starts: &'a [u32; MAX_INTERVALS],
-    owners: &'a [u16; MAX_INTERVALS],
-    intervals: usize,
-    devices: usize,
-    range: u64,
-    point: u64,
-) -> OwnerAnswer
-    ensures { LookedIn starts.now owners.now intervals devices range point result }
-{
-    if point >= range {
-        return OwnerAnswer::Refused(POINT_OUTSIDE);
-    }
-    if devices == 0 {
-        return OwnerAnswer::Refused(NO_DEVICE);
-    }
-    OwnerAnswer::Owner(owner_found(starts, owners, intervals, point))
-}
-
-fn refused(refusal: u32, probes: u32, counters: Counters) -> CopiesAnswer
-    ensures { (result.refusal ≡ refusal) × (result.owners ≡ replicate 8 0) × (result.probes ≡ probes) × (result.counters ≡ counters) }
+fn refused(refusal: Refusal, probes: u32, counters: Counters) -> CopiesAnswer
+    ensures { (result.refusal ≡ number refusal) × (result.owners ≡ replicate 8 0) × (result.probes ≡ probes) × (result.counters ≡ counters) }
 {
     CopiesAnswer {
-        refusal,
+        refusal: u32::from(refusal),
         owners: [0; 8],
         probes,
         counters,
     }
 }
 
-// The copies of a block, on the lent arrays of a pool: for callers that make many lookups. 11 where k is
-// not within 1 to 8; 10 where no device is present; 12, with 256 probes, where 256 probes find fewer
-// than k different owners.
-pub fn copies_in<'a>(
-    starts: &'a [u32; MAX_INTERVALS],
-    owners: &'a [u16; MAX_INTERVALS],
-    intervals: usize,
-    devices: usize,
-    range: u64,
-    block: u64,
-    k: u64,
-    counters: Counters,
-) -> CopiesAnswer
-    ensures { CopiedIn starts.now owners.now intervals devices range block k counters result }
-{
-    if k < 1 || k > 8 {
-        return refused(COPIES_OUTSIDE, 0, counters);
+// The arrays and numbers of a pool, lent: for callers that make many lookups. Nothing is asked of them, and a
+// lookup decides nothing about them.
+#[derive(Clone, Copy)]
+pub struct Table<'a> {
+    pub columns: Columns<'a>,
+    pub devices: usize,
+    pub range: u64,
+}
+
+impl<'a> Table<'a> {
+    // That of a pool.
+    pub fn of(pool: &'a Pool) -> Table<'a>
+        ensures { TableOf result pool.now.starts pool.now.owners pool.now.intervals pool.now.devices pool.now.range }
+    {
+        Table {
+            columns: Columns {
+                starts: &pool.starts,
+                owners: &pool.owners,
+                intervals: pool.intervals,
+            },
+            devices: pool.devices,
+            range: pool.range,
+        }
     }
-    if devices == 0 {
-        return refused(NO_DEVICE, 0, counters);
+
+    // The owner of a point. 13 where the point is at or above the range, then 10 where no device is present.
+    pub fn owner(self, point: u64) -> Result<u64, Refusal>
+        ensures { LookedIn self.entry.columns.starts.now self.entry.columns.owners.now self.entry.columns.intervals self.entry.devices
+            self.entry.range point result }
+    {
+        if point >= self.range {
+            return Err(Refusal::PointOutside);
+        }
+        if self.devices == 0 {
+            return Err(Refusal::NoDevice);
+        }
+        Ok(self.columns.owner_found(point))
     }
-    let most = range.min(MAX_RANGE);
-    let probed = probe_owners(starts, owners, intervals, most, block, k as usize);
-    if probed.found < k as usize {
-        return refused(FEW_OWNERS, PROBES, counters);
-    }
-    // A variable: a literal that takes the array straight from a field gets no proof.
-    let list = probed.owners;
-    CopiesAnswer {
-        refusal: 0,
-        owners: list,
-        probes: probed.probes,
-        counters: Counters {
-            lookups: counters.lookups.saturating_add(1),
-            probes: counters.probes.saturating_add(probed.probes),
-        },
+
+    // The copies of a block. 11 where k is not within 1 to 8; 10 where no device is present; 12, with 256
+    // probes, where 256 probes find fewer than k different owners.
+    pub fn copies(self, block: u64, k: u64, counters: Counters) -> CopiesAnswer
+        ensures { CopiedIn self.entry.columns.starts.now self.entry.columns.owners.now self.entry.columns.intervals self.entry.devices
+            self.entry.range block k counters result }
+    {
+        if k < 1 || k > 8 {
+            return refused(Refusal::CopiesOutside, 0, counters);
+        }
+        if self.devices == 0 {
+            return refused(Refusal::NoDevice, 0, counters);
+        }
+        let most = self.range.min(MAX_RANGE);
+        let probed = self.columns.probe_owners(most, block, k as usize);
+        if probed.found < k as usize {
+            return refused(Refusal::FewOwners, PROBES, counters);
+        }
+        // A variable: a literal that takes the array straight from a field gets no proof.
+        let list = probed.owners;
+        CopiesAnswer {
+            refusal: 0,
+            owners: list,
+            probes: probed.probes,
+            counters: Counters {
+                lookups: counters.lookups.saturating_add(1),
+                probes: counters.probes.saturating_add(probed.probes),
+            },
+        }
     }
 }
 
 // The owner of a point. 2 for a pool that is not valid; 13 where the point is at or above the range, then
 // 10 where no device is present.
-pub fn owner(pool: &Pool, point: u64) -> OwnerAnswer
+pub fn owner(pool: &Pool, point: u64) -> Result<u64, Refusal>
     ensures { Looked pool.now point result }
 {
     if !valid(*pool) {
-        return OwnerAnswer::Refused(OUTSIDE);
+        return Err(Refusal::Outside);
     }
-    owner_in(
-        &pool.starts,
-        &pool.owners,
-        pool.intervals,
-        pool.devices,
-        pool.range,
-        point,
-    )
+    Table::of(pool).owner(point)
 }
 
 // The k devices that hold the copies of a block. 2 for a pool that is not valid; 11 where k is not within
@@ -161,22 +152,13 @@ pub fn copies(pool: &Pool, block: u64, k: u64, counters: Counters) -> CopiesAnsw
     ensures { Copied pool.now block k counters result }
 {
     if !valid(*pool) {
-        return refused(OUTSIDE, 0, counters);
+        return refused(Refusal::Outside, 0, counters);
     }
-    copies_in(
-        &pool.starts,
-        &pool.owners,
-        pool.intervals,
-        pool.devices,
-        pool.range,
-        block,
-        k,
-        counters,
-    )
+    Table::of(pool).copies(block, k, counters)
 }
 
 // The owner of a point, of a pool by value, which it lends to `owner`.
-pub fn owner_of(pool: Pool, point: u64) -> OwnerAnswer
+pub fn owner_of(pool: Pool, point: u64) -> Result<u64, Refusal>
     ensures { Looked pool point result }
 {
     owner(&pool, point)

@@ -1,6 +1,6 @@
 -- The examples of document 01, 'Marked for proof', in one group: a record with a field for each, under its sentence. Proved in proofs/Marked.antt.
-use Rattle.std.specs.Prelude.{◌≡◌, [], ◌∷◌}
-use Rattle.history_numbers.specs.declared.numbers.CapacityAnswer.TheVariants.{Thousandths, Refused}
+use Rattle.std.specs.Prelude.{◌≡◌, [], ◌∷◌, Ok, Err}
+use Rattle.refusals.specs.declared.Refusal.TheVariants.{Shapeless, Outside}
 use Rattle.history_numbers.specs.Capacities.{capacity_answer}
 use Rattle.history_numbers.specs.Text.{capacity_in}
 use Rattle.lookup_core.specs.Probes.{scaled}
@@ -14,15 +14,15 @@ use Rattle.slicing.proofs.Cases.{after, next, three_equal}
 
 pub record Marked : Type 0 where
   -- `3.2` is 3,200
-  pub K1 : capacity_answer (capacity_in (0x33 ∷ 0x2e ∷ 0x32 ∷ [])) ≡ Thousandths 3200
+  pub K1 : capacity_answer (capacity_in (0x33 ∷ 0x2e ∷ 0x32 ∷ [])) ≡ Ok 3200
   -- `3,2` and `3.2e` give 1
-  pub K2 : (capacity_answer (capacity_in (0x33 ∷ 0x2c ∷ 0x32 ∷ [])) ≡ Refused 1)
-      × (capacity_answer (capacity_in (0x33 ∷ 0x2e ∷ 0x32 ∷ 0x65 ∷ [])) ≡ Refused 1)
+  pub K2 : (capacity_answer (capacity_in (0x33 ∷ 0x2c ∷ 0x32 ∷ [])) ≡ Err Shapeless)
+      × (capacity_answer (capacity_in (0x33 ∷ 0x2e ∷ 0x32 ∷ 0x65 ∷ [])) ≡ Err Shapeless)
   -- `0.000` gives 2
-  pub K3 : capacity_answer (capacity_in (0x30 ∷ 0x2e ∷ 0x30 ∷ 0x30 ∷ 0x30 ∷ [])) ≡ Refused 2
+  pub K3 : capacity_answer (capacity_in (0x30 ∷ 0x2e ∷ 0x30 ∷ 0x30 ∷ 0x30 ∷ [])) ≡ Err Outside
   -- `16000.000` is 16,000,000; `16000.001` gives 2 (Wish 1)
-  pub K4 : (capacity_answer (capacity_in (0x31 ∷ 0x36 ∷ 0x30 ∷ 0x30 ∷ 0x30 ∷ 0x2e ∷ 0x30 ∷ 0x30 ∷ 0x30 ∷ [])) ≡ Thousandths 16000000)
-      × (capacity_answer (capacity_in (0x31 ∷ 0x36 ∷ 0x30 ∷ 0x30 ∷ 0x30 ∷ 0x2e ∷ 0x30 ∷ 0x30 ∷ 0x31 ∷ [])) ≡ Refused 2)
+  pub K4 : (capacity_answer (capacity_in (0x31 ∷ 0x36 ∷ 0x30 ∷ 0x30 ∷ 0x30 ∷ 0x2e ∷ 0x30 ∷ 0x30 ∷ 0x30 ∷ [])) ≡ Ok 16000000)
+      × (capacity_answer (capacity_in (0x31 ∷ 0x36 ∷ 0x30 ∷ 0x30 ∷ 0x30 ∷ 0x2e ∷ 0x30 ∷ 0x30 ∷ 0x31 ∷ [])) ≡ Err Outside)
   -- R = 100, three equal: shares 34, 33, 33
   pub K5 : shares 100 (device 1 1000 ∷ device 2 1000 ∷ device 3 1000 ∷ []) ≡ (34 of 1) ∷ (33 of 2) ∷ (33 of 3) ∷ []
   -- after line 4 it is 0–33 to device 1, 34–66 to 3, 67–99 to 2

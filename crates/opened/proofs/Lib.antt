@@ -1,3 +1,3 @@
 pub mod RowNames
 pub mod OpenPools
-pub mod PartedIds
+pub mod HalvedIds

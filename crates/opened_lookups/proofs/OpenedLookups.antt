@@ -2,6 +2,7 @@
 --
 -- owned_in_told (the owner of a point), one_in_copied (the copies of a block)
 -- on an opened pool: opened_image, opened_answer, opened_outcome, opened_owned, opened_copied
+use Rattle.std.specs.Prelude.{Result}
 use mathlib.Core.Path.{◌≡◌, refl, ap, ◌∙◌}
 use mathlib.Core.Bool.{Bool, true, false}
 use mathlib.Core.List.{List, [], ◌∷◌, ◌++◌}
@@ -11,6 +12,7 @@ use lib.Dec.{ltb}
 use lib.ListN.{length, take, drop, replicate, length-append, length-replicate}
 use lib.Seq.{take_at}
 use borrow.Author.Tests.{ltb-true, ltb-false}
+use Rattle.refusals.specs.declared.Refusal.{Refusal}
 use Rattle.slicing.specs.Changes.{State}
 use Rattle.slicing.specs.Limits.{max_range}
 use Rattle.slicing.specs.Runs.{owner_at}
@@ -25,7 +27,6 @@ use Rattle.lookups.specs.Copies.{Outcome, copies_of}
 use Rattle.lookups.specs.Promises.{owner_answer, LookedIn, CopiedIn}
 use Rattle.lookups.specs.declared.CopiesAnswer.{CopiesAnswer}
 use Rattle.lookups.specs.declared.Counters.{Counters}
-use Rattle.lookups.specs.declared.OwnerAnswer.{OwnerAnswer}
 use Rattle.lookups.proofs.Replies.{looked_answer}
 use Rattle.image_numbers.specs.Format.{state_in, Image}
 use Rattle.images.specs.OnImages.{OnImage, unmarked, versioned, faulty, accepted}
@@ -40,7 +41,7 @@ use Rattle.opened_lookups.specs.Promises.{OpenedMemory, opened_as, OpenedFrom, a
 -- ---- the owner of a point
 
 module _ (s o m : List ℕ) (x : ℕ) (a : List ℕ) where
-  pub owned_in_told : 1 ≤ length a → (w : OwnerAnswer) (r : Answer) → LookedIn s o (at m 1) (at m 2) (at m 0) x w → r ≡ owner_told a w → OwnedIn s o m x a r
+  pub owned_in_told : 1 ≤ length a → (w : Result ℕ Refusal) (r : Answer) → LookedIn s o (at m 1) (at m 2) (at m 0) x w → r ≡ owner_told a w → OwnedIn s o m x a r
   owned_in_told l w r h e = record { short = λ k. absurd (omega (arith, l, k)); room = λ k. e ∙ ap (owner_told a) h.answer }
 
 -- ---- the copies of a block
@@ -134,7 +135,7 @@ module _ (xs s o m : List ℕ) (r : OpenedMemory) (h : OpenedFrom xs s o m r) (z
       → answer_in (take 4096 r.starts) (take 4096 r.owners) (take 3 r.numbers) x
       ≡ owner_answer (state_in xs).range (length (state_in xs).devices) x (owner_at (state_in xs).table x)
   opened_answer x =
-      seen OwnerAnswer (λ s o m. answer_in s o m x)
+      seen (Result ℕ Refusal) (λ s o m. answer_in s o m x)
       ∙ found_state pool x _ valid (looked_answer refl)
       ∙ ap (λ (u : State). owner_answer u.range (length u.devices) x (owner_at u.table x)) state
 

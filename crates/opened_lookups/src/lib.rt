@@ -2,12 +2,16 @@
 // The image is read and checked once; a lookup then decides nothing, and any contents of the arrays get an answer.
 #![tactic(auto)]
 
+ghost use Rattle.slicing_core.specs.Rows.{at};
+ghost use Rattle.lookups.specs.Promises.{TableOf};
 ghost use Rattle.opened_lookups.specs.Promises.{OpenedFrom, OwnedIn, CopiedOneIn};
 
 use answers::put;
+use lookup_core::Columns;
 use lookup_numbers::{ROW, counters_of, put_counters, put_owner, put_row};
-use lookups::{copies_in, owner_in};
-use slicing::{MAX_INTERVALS, SHORT_BUFFER};
+use lookups::Table;
+use refusals::Refusal;
+use slicing::MAX_INTERVALS;
 
 // Opens an image: the first 4,096 places of `starts` and `owners` become the pool's own, unused ones 0; numbers:
 // range, intervals, devices. 17 where the arrays have under 4,096 places or the numbers under three,
@@ -17,7 +21,7 @@ pub fn open(image: &[u8], starts: &mut [u32], owners: &mut [u16], numbers: &mut 
         (record { number = result; starts = starts.new; owners = owners.new; numbers = numbers.new }) }
 {
     if starts.len() < MAX_INTERVALS || owners.len() < MAX_INTERVALS || numbers.len() < 3 {
-        return SHORT_BUFFER;
+        return u32::from(Refusal::ShortBuffer);
     }
     let made = images::read(image);
     if made.refusal > 0 {
@@ -34,6 +38,25 @@ pub fn open(image: &[u8], starts: &mut [u32], owners: &mut [u16], numbers: &mut 
     0
 }
 
+// The table of an opened pool, whose arrays the C interface hands one by one.
+fn table_of<'a>(
+    starts: &'a [u32; MAX_INTERVALS],
+    owners: &'a [u16; MAX_INTERVALS],
+    numbers: &'a [u64; 3],
+) -> Table<'a>
+    ensures { TableOf result starts.now owners.now (at numbers.now 1) (at numbers.now 2) (at numbers.now 0) }
+{
+    Table {
+        columns: Columns {
+            starts,
+            owners,
+            intervals: numbers[1] as usize,
+        },
+        devices: numbers[2] as usize,
+        range: numbers[0],
+    }
+}
+
 // The owner of a point of an opened pool; answer: its id. 13 where the point is at or above the range, then 10
 // where no device is present.
 pub fn opened_owner<'a>(
@@ -47,16 +70,9 @@ pub fn opened_owner<'a>(
         (record { number = result; places = answer.new }) }
 {
     if answer.is_empty() {
-        return SHORT_BUFFER;
+        return u32::from(Refusal::ShortBuffer);
     }
-    let found = owner_in(
-        starts,
-        owners,
-        numbers[1] as usize,
-        numbers[2] as usize,
-        numbers[0],
-        point,
-    );
+    let found = table_of(starts, owners, numbers).owner(point);
     put_owner(answer, found)
 }
 
@@ -75,19 +91,10 @@ pub fn opened_copies<'a>(
         (record { number = result; tally = tally.new; rows = row.new }) }
 {
     if tally.len() < 2 || row.len() < ROW {
-        return SHORT_BUFFER;
+        return u32::from(Refusal::ShortBuffer);
     }
     let counters = counters_of(tally);
-    let answer = copies_in(
-        starts,
-        owners,
-        numbers[1] as usize,
-        numbers[2] as usize,
-        numbers[0],
-        block,
-        k,
-        counters,
-    );
+    let answer = table_of(starts, owners, numbers).copies(block, k, counters);
     put_row(row, answer);
     put_counters(tally, answer.counters);
     answer.refusal

@@ -1,15 +1,14 @@
 -- From the plan of a change to the promise of the call.
 --
 -- an outcome: length_written
--- the pool: opened_valid (what opening it says where it was found valid)
 -- Changed: changed_invalid, changed_refused, changed_planned; moves_fit (the moves of the plan fit the lent list)
 use mathlib.Core.Path.{◌≡◌, refl, sym, ap, ◌∙◌, subst}
-use mathlib.Core.Bool.{Bool, true, false, not}
 use mathlib.Core.List.{List, ◌++◌, map}
 use Prim.Native.Nat.{ℕ, ◌≤◌}
 use native.Mathlib.Omega.{arith}
 use lib.ListN.{length, drop, length-map}
-use borrow.Author.Tests.{not-false}
+use Rattle.refusals.specs.Replies.{number}
+use Rattle.refusals.specs.declared.Refusal.{Refusal}
 use Rattle.slicing.specs.Changes.{State, Change, Outcome, change}
 use Rattle.slicing.specs.Claims.{Claim, written}
 use Rattle.slicing.specs.Ledger.{Ledger, opened, feed}
@@ -19,12 +18,12 @@ use Rattle.slicing.specs.SixSteps.{moves_from}
 use Rattle.slicing.specs.Validity.{Valid}
 use Rattle.slicing.proofs.Claims.{claim_valid}
 use Rattle.slicing_core.specs.Rows.{at}
-use Rattle.slicing_core.specs.Stages.{Decides}
 use Rattle.packed_runs.specs.Words.{turns_of}
 use Rattle.six_steps.proofs.Renaming.{move_as}
-use Rattle.opened.specs.OpenPools.{state_in, Open}
+use Rattle.opened.specs.OpenPools.{state_in}
 use Rattle.opened.specs.declared.Opened.{Opened}
-use Rattle.plans.specs.Plans.{Planned}
+use Rattle.plans.specs.Plans.{Accepted, Declined}
+use Rattle.plans.proofs.Planning.{number_some}
 use Rattle.plans.specs.declared.Plan.{Plan}
 use Rattle.pools.specs.Pools.{state_of, pool_of, ValidPool}
 use Rattle.pools.specs.declared.Pool.{Pool}
@@ -46,13 +45,6 @@ module _ (s : State) (v : Valid s) (lent : List Rules.Move) (k : Change) where
   pub length_written : length (written (change s lent k)) ≡ (change s lent k).count
   length_written = claim.counted
 
--- an opened pool that was found valid
-pub opened_valid : (p : Pool) {b : Bool} {o : Opened} {table : List ℕ} → not b ≡ false → Decides b (ValidPool p)
-    → (b ≡ true → Open o table × (state_in o table ≡ state_of p)) → ValidPool p × Open o table × (state_in o table ≡ state_of p)
-opened_valid p {b} held d h =
-    let yes : b ≡ true = not-false b held in
-    (rw yes at d, (h yes).0, (h yes).1)
-
 -- the answer to a refused change
 abbrev refusal : Pool → ℕ → ChangeAnswer
 refusal p n = record { refusal = n; moved = 0; count = 0; pool = p }
@@ -65,30 +57,24 @@ module _ (p : Pool) (lent : List Move) (k : Change) where
   abbrev outcome : Outcome
   outcome = change (state_of p) as_moves k
 
+  as_many : length as_moves ≡ length lent
+  as_many = length-map lent move_of
+
   pub changed_invalid : (ValidPool p → ⊥) → Changed p lent k (refusal p 2) lent
   changed_invalid i = record {
     valid = λ v. absurd (i v);
     invalid = λ j. record { number = refl; moved = refl; count = refl; pool = refl; list = refl };
   }
 
-  -- a plan of the valid pool, opened as o
-  module _ {o : Opened} {r : Plan} {table turns next : List ℕ} (found : ValidPool p × Open o table × (state_in o table ≡ state_of p))
-      (planned : Planned (λ l. change (state_in o table) l k) (length lent) o r turns next) where
-    v : ValidPool p
-    v = found.0
-
-    h : Planned (λ l. change (state_of p) l k) (length lent) o r turns next
-    h = subst (λ (t : State). Planned (λ l. change t l k) (length lent) o r turns next) found.2 planned
-
-    as_many : length as_moves ≡ length lent
-    as_many = length-map lent move_of
-
-    pub changed_refused : 1 ≤ r.refusal → Changed p lent k (refusal p r.refusal) lent
-    changed_refused stopped = record {
+  -- a change of the valid pool, opened as o
+  module _ (v : ValidPool p) (o : Opened) (table : List ℕ) (same : state_in o table ≡ state_of p) where
+    pub changed_refused : {x : Refusal} → Declined (λ l. change (state_in o table) l k) (length lent) x → Changed p lent k (refusal p (number x)) lent
+    changed_refused {x} declined = record {
       valid = λ w.
-          let u = (claim (state_of p) v.valid as_moves k).refused (omega (arith, h.number as_moves as_many)) in
+          let h : Declined (λ l. change (state_of p) l k) (length lent) x = subst (λ (t : State). Declined (λ l. change t l k) (length lent) x) same declined in
+          let u = (claim (state_of p) v.valid as_moves k).refused (omega (arith, h.number as_moves as_many, number_some x)) in
           record {
-            number = h.number as_moves as_many;
+            number = sym (h.number as_moves as_many);
             moved = sym u.moved;
             count = sym u.count;
             pool = sym (ap pool_of u.state ∙ v.same);
@@ -97,30 +83,35 @@ module _ (p : Pool) (lent : List Move) (k : Change) where
       invalid = λ i. absurd (i v);
     }
 
-    abbrev moves : List Rules.Move
-    moves = moves_from 0 (turns_of turns 0 r.turns)
+    -- worked out as the plan r
+    module _ {r : Plan} {turns next : List ℕ} (planned : Accepted (λ l. change (state_in o table) l k) (length lent) r turns next) where
+      h : Accepted (λ l. change (state_of p) l k) (length lent) r turns next
+      h = subst (λ (t : State). Accepted (λ l. change t l k) (length lent) r turns next) same planned
 
-    abbrev named : List Rules.Move
-    named = map (move_as (at r.names)) moves
+      abbrev moves : List Rules.Move
+      moves = moves_from 0 (turns_of turns 0 r.turns)
 
-    length_moves : length moves ≡ outcome.count
-    length_moves =
-        sym (length-map moves (move_as (at r.names))) ∙ ap length (h.moves as_moves as_many) ∙ length_written (state_of p) v.valid as_moves k
+      abbrev named : List Rules.Move
+      named = map (move_as (at r.names)) moves
 
-    pub moves_fit : length moves ≤ length lent
-    moves_fit = omega (arith, length_moves, count_fits (state_of p) v.valid as_moves k, as_many)
+      length_moves : length moves ≡ outcome.count
+      length_moves =
+          sym (length-map moves (move_as (at r.names))) ∙ ap length (h.moves as_moves as_many) ∙ length_written (state_of p) v.valid as_moves k
 
-    pub changed_planned : r.refusal ≡ 0 → {after : List Move} → after ≡ map row_of named ++ drop (length moves) lent
-        → Changed p lent k (record { refusal = 0; moved = r.moved; count = r.count; pool = pool_of (state_in r.after next) }) after
-    changed_planned made written_so = record {
-      valid = λ w. record {
-        number = sym made ∙ h.number as_moves as_many;
-        moved = h.moved as_moves as_many;
-        count = h.count as_moves as_many;
-        pool = ap pool_of (h.state made as_moves as_many);
-        list =
-            written_so ∙ ap (λ n. map row_of named ++ drop n lent) length_moves
-            ∙ ap (λ ms. map row_of ms ++ drop outcome.count lent) (h.moves as_moves as_many);
-      };
-      invalid = λ i. absurd (i v);
-    }
+      pub moves_fit : length moves ≤ length lent
+      moves_fit = omega (arith, length_moves, count_fits (state_of p) v.valid as_moves k, as_many)
+
+      pub changed_planned : {after : List Move} → after ≡ map row_of named ++ drop (length moves) lent
+          → Changed p lent k (record { refusal = 0; moved = r.moved; count = r.count; pool = pool_of (state_in r.after next) }) after
+      changed_planned written_so = record {
+        valid = λ w. record {
+          number = sym (h.number as_moves as_many);
+          moved = h.moved as_moves as_many;
+          count = h.count as_moves as_many;
+          pool = ap pool_of (h.state as_moves as_many);
+          list =
+              written_so ∙ ap (λ n. map row_of named ++ drop n lent) length_moves
+              ∙ ap (λ ms. map row_of ms ++ drop outcome.count lent) (h.moves as_moves as_many);
+        };
+        invalid = λ i. absurd (i v);
+      }

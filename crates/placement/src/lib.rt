@@ -11,12 +11,14 @@ ghost use Rattle.slicing_core.specs.Rows.{at};
 ghost use Rattle.packed_runs.specs.Words.{runs, turns_of, room};
 ghost use Rattle.six_steps.proofs.Renaming.{move_as};
 ghost use Rattle.calls.specs.Calls.{change_of};
+ghost use Rattle.refusals.specs.Replies.{number};
 ghost use Rattle.placement.specs.Promises.{row_of, Changed};
 
 use calls::{Call, plan};
 use packed_runs::{LABELS, ROOM, ROWS, blank};
 use pools::{Pool, close};
-use slicing::{MAX_DEVICES, OUTSIDE};
+use refusals::Refusal;
+use slicing::MAX_DEVICES;
 use valid_pools::open;
 
 // A move: `length` points from `start` on go from one device to another.
@@ -29,7 +31,8 @@ pub struct Move {
 }
 
 // The answer of a call that changes a pool: the refusal number or 0, the moved points, the number of
-// moves, and the pool afterwards.
+// moves, and the pool afterwards. It has the pool in either case, as it was where the call is refused, and
+// demand 3 is stated on these four, so it is no Result.
 #[derive(Clone, Copy)]
 pub struct ChangeAnswer {
     pub refusal: u32,
@@ -65,11 +68,11 @@ fn write_moves(turns: &[u64; ROOM], t: usize, names: &[u64; MAX_DEVICES], list: 
 }
 
 // A refused change leaves the pool as it was.
-fn refused(pool: Pool, refusal: u32) -> ChangeAnswer
-    ensures { result ≡ record { refusal = refusal; moved = 0; count = 0; pool = pool } }
+fn refused(pool: Pool, refusal: Refusal) -> ChangeAnswer
+    ensures { result ≡ record { refusal = number refusal; moved = 0; count = 0; pool = pool } }
 {
     ChangeAnswer {
-        refusal,
+        refusal: u32::from(refusal),
         moved: 0,
         count: 0,
         pool,
@@ -81,23 +84,15 @@ fn change(pool: Pool, call: Call, list: &mut [Move]) -> ChangeAnswer
     ensures { Changed pool list.old (change_of call) result list.new }
 {
     let mut table = blank();
-    let checked = open(pool, &mut table);
-    if !checked.valid {
-        return refused(pool, OUTSIDE);
-    }
+    let Some(before) = open(pool, &mut table) else {
+        return refused(pool, Refusal::Outside);
+    };
     let mut turns = blank();
     let mut next = blank();
-    let made = plan(
-        checked.opened,
-        call,
-        list.len(),
-        &table,
-        &mut turns,
-        &mut next,
-    );
-    if made.refusal > 0 {
-        return refused(pool, made.refusal);
-    }
+    let made = match plan(before, call, list.len(), &table, &mut turns, &mut next) {
+        Ok(made) => made,
+        Err(refusal) => return refused(pool, refusal),
+    };
     write_moves(&turns, made.turns, &made.names, list);
     ChangeAnswer {
         refusal: 0,

@@ -2,8 +2,10 @@
 --
 --   opened_with e q      the pool e with a table of q intervals
 --
+-- number_some         a refusal's number is not 0
 -- planned_same        a plan of one outcome is a plan of an equal one
 -- planned_refused     a plan that refuses, where the rules refuse
+-- planned_accepted, planned_declined   what a plan that was given says, or its refusal
 -- settled_eight, settled_nine, settled_done     the rules' outcome, by what the steps give
 -- accepted_settled    a plan that accepts, where the rules accept
 use mathlib.Core.Path.{◌≡◌, refl, sym, ap, ◌∙◌, subst}
@@ -16,6 +18,7 @@ use borrow.Author.Tests.{lt-ltb, le-ltb}
 use Rattle.std.specs.Prelude.{Result, Ok, Err}
 use Rattle.refusals.specs.Replies.{number}
 use Rattle.refusals.specs.declared.Refusal.{Refusal}
+use Rattle.refusals.specs.declared.Refusal.TheVariants.{Shapeless, Outside, Misplaced, Present, Absent, Full, OnlyDevice, OverLimit, ShortList, NoDevice, CopiesOutside, FewOwners, PointOutside, Unmarked, OtherVersion, Faulty, ShortBuffer}
 use Rattle.slicing.specs.Changes.{State, Outcome, refused, accepted, settle}
 use Rattle.slicing.specs.Claims.{written}
 use Rattle.slicing.specs.Runs.{Run, relabel}
@@ -74,6 +77,52 @@ planned_refused s x is h = refuses x is (record {
   moved = λ lent l. ap (λ k. k.moved) (h lent l);
   count = λ lent l. ap (λ k. k.count) (h lent l);
 })
+
+-- ---- refusals
+
+pub number_some : (x : Refusal) → 1 ≤ number x
+number_some Shapeless = omega arith
+number_some Outside = omega arith
+number_some Misplaced = omega arith
+number_some Present = omega arith
+number_some Absent = omega arith
+number_some Full = omega arith
+number_some OnlyDevice = omega arith
+number_some OverLimit = omega arith
+number_some ShortList = omega arith
+number_some NoDevice = omega arith
+number_some CopiesOutside = omega arith
+number_some FewOwners = omega arith
+number_some PointOutside = omega arith
+number_some Unmarked = omega arith
+number_some OtherVersion = omega arith
+number_some Faulty = omega arith
+number_some ShortBuffer = omega arith
+
+-- ---- what a plan that was given says
+
+abbrev plan_or : Plan → Result Plan Refusal → Plan
+plan_or q (Ok p) = p
+plan_or q (Err x) = q
+
+abbrev refusal_or : Refusal → Result Plan Refusal → Refusal
+refusal_or y (Ok p) = y
+refusal_or y (Err x) = x
+
+abbrev given : Result Plan Refusal → ℕ
+given (Ok p) = 1
+given (Err x) = 0
+
+pub planned_accepted : {outcome : List Move → Outcome} {places : ℕ} {p : Plan} {work next : List ℕ} → Planned outcome places (Ok p) work next
+    → Accepted outcome places p work next
+planned_accepted {outcome} {places} {p} {work} {next} (accepts q is a) =
+    subst (λ (k : Plan). Accepted outcome places k work next) (sym (ap (plan_or p) is)) a
+planned_accepted (refuses x is d) = let z : ◌≡◌ {A = ℕ} 1 0 = ap given is in absurd (omega (arith, z))
+
+pub planned_declined : {outcome : List Move → Outcome} {places : ℕ} {x : Refusal} {work next : List ℕ} → Planned outcome places (Err x) work next
+    → Declined outcome places x
+planned_declined (accepts q is a) = let z : ◌≡◌ {A = ℕ} 0 1 = ap given is in absurd (omega (arith, z))
+planned_declined {outcome} {places} {x} (refuses y is d) = subst (λ (k : Refusal). Declined outcome places k) (sym (ap (refusal_or x) is)) d
 
 -- ---- the rules' outcome
 

@@ -1,5 +1,6 @@
 -- Laws of the arrays of a closed pool, filled from an opened one with zeros behind.
 --
+-- padded: padded_take (one number more)
 -- total: total_runs_more, total_runs_le (one run more, and all of them)
 -- starts_of: starts_of_relabel, starts_of_run (one run more)
 -- owners_of: owners_of_run
@@ -9,7 +10,9 @@ use mathlib.Core.List.{List, [], ◌∷◌}
 use Prim.Native.Nat.{ℕ, zero, suc, ◌+◌, ◌/◌, ◌%◌, ◌≤◌, ◌<◌}
 use native.Mathlib.Omega.{arith}
 use native.Mathlib.Nat.{add-zero, zero-add}
-use lib.ListN.{set, take}
+use native.Mathlib.Numerals.{add-one}
+use lib.ListN.{length, set, take, length-take}
+use lib.Seq.{take-suc}
 use Rattle.slicing.specs.Devices.{ids}
 use Rattle.slicing.specs.Runs.{Run, ◌of◌, total, relabel}
 use Rattle.slicing.proofs.Runs.{total_append, relabel_append}
@@ -25,6 +28,10 @@ use Rattle.pools.specs.declared.Pool.{Pool}
 use Rattle.pools.specs.Pools.{padded, starts_of, owners_of, capacities_of, pool_of}
 use Rattle.pools.proofs.PaddedRows.{padded_store, starts_of_snoc, length_starts_of, owners_of_snoc, length_owners_of}
 use Rattle.pools.proofs.PoolLaws.{ids_part, capacities_part}
+
+pub padded_take : (N : ℕ) (xs : List ℕ) (i : ℕ) → i < N → i < length xs → set (padded N (take i xs)) i (at xs i) ≡ padded N (take (i + 1) xs)
+padded_take N xs i h l =
+    rw (add-one, take-suc xs i 0 l) (padded_store N i (take i xs) (at xs i) (omega (arith, length-take i xs)) h)
 
 -- ---- runs
 

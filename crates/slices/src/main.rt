@@ -4,7 +4,7 @@
 // not be written whole are told in a line on standard error.
 #![tactic(auto)]
 
-use history_streams::Outcome;
+use history_streams::Failure;
 use std::fs::OpenOptions;
 use std::io::{Error, ErrorKind};
 use std::{fs, io};
@@ -47,11 +47,11 @@ fn settle(rt: &HostRuntime) -> io::Result<()> {
 
 fn main(rt: HostRuntime) -> io::Result<()> {
     match history_streams::transcribe(&mut rt.stdin(), &mut rt.stdout()) {
-        Outcome::Printed => match settle(&rt) {
+        Ok(()) => match settle(&rt) {
             Ok(()) => Ok(()),
             Err(error) => tell(&rt, UNWRITTEN, error),
         },
-        Outcome::Unread(error) => tell(&rt, UNREAD, error),
-        Outcome::Unwritten(error) => tell(&rt, UNWRITTEN, error),
+        Err(Failure::Unread(error)) => tell(&rt, UNREAD, error),
+        Err(Failure::Unwritten(error)) => tell(&rt, UNWRITTEN, error),
     }
 }

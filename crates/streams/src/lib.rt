@@ -4,36 +4,30 @@
 // row; the next one is a failure. A failure carries the error that says why.
 #![tactic(auto)]
 
+ghost use Rattle.std.specs.Prelude.{IfOk};
 ghost use Rattle.std.specs.Io.{ReadsAtMost, WritesAtMost};
-ghost use Rattle.streams.specs.Inputs.{Within};
+ghost use Rattle.streams.specs.Counts.{IsPrefixLen};
 
 use std::io;
 use std::io::{Error, ErrorKind, Read, Write};
 
 pub const INTERRUPTIONS: u32 = 64;
 
-#[derive(Clone, Copy)]
-pub enum Input {
-    // So many bytes stand at the start of the buffer. The input ended behind them, or the buffer is full.
-    Read(usize),
-    // A read failed. What the buffer holds is no input.
-    Failed(Error),
-}
-
-// Reads until buf is full, the input ends or a read fails.
-pub fn read_to_end<R: Read>(input: &mut R, buf: &mut [u8]) -> Input
-    ensures { Within result buf.new }
+// Reads until buf is full, the input ends or a read fails. So many bytes stand at the start of buf; the input ended
+// behind them, or buf is full. After an error what buf holds is no input.
+pub fn read_to_end<R: Read>(input: &mut R, buf: &mut [u8]) -> io::Result<usize>
+    ensures { IfOk result (λ n. IsPrefixLen n buf.new) }
 {
     let mut done = 0;
     // A while: each read says how many more bytes came.
     while done < buf.len() {
         match read_some(input, &mut buf[done..]) {
-            Ok(0) => return Input::Read(done),
+            Ok(0) => return Ok(done),
             Ok(more) => done += more,
-            Err(error) => return Input::Failed(error),
+            Err(error) => return Err(error),
         }
     }
-    Input::Read(done)
+    Ok(done)
 }
 
 // Writes all of buf; an error where a write fails or takes nothing, when some of buf may have been

@@ -11,7 +11,7 @@ pub fn point<W: Write>(out: &mut W, line: &[u8]) -> io::Result<bool> {
         return Ok(false);
     };
     let [block, probe, range] = list;
-    printing::point(out, lookups::point(block, probe, range))?;
+    printing::reply(out, lookups::point(block, probe, range))?;
     Ok(true)
 }
 
@@ -19,7 +19,7 @@ pub fn owner<W: Write>(out: &mut W, pool: Pool, line: &[u8]) -> io::Result<bool>
     let Some(point) = number(word(line, 2)) else {
         return Ok(false);
     };
-    printing::owner(out, lookups::owner_of(pool, point))?;
+    printing::reply(out, lookups::owner_of(pool, point))?;
     Ok(true)
 }
 
@@ -27,7 +27,7 @@ pub fn share<W: Write>(out: &mut W, pool: Pool, line: &[u8]) -> io::Result<bool>
     let Some(id) = number(word(line, 2)) else {
         return Ok(false);
     };
-    printing::share(out, valid_pools::share(pool, id))?;
+    printing::reply(out, valid_pools::share(pool, id))?;
     Ok(true)
 }
 

@@ -119,7 +119,7 @@ fn bytes_line<W: Write>(out: &mut W, line: &[u8], bytes: &mut [u8]) -> io::Resul
         return Ok(true);
     }
     if is(line, b"capacity", 1) {
-        printing::capacity(out, history::capacity(bytes))?;
+        printing::reply(out, history::capacity(bytes))?;
         return Ok(true);
     }
     if is(line, b"transcript", 1) {

@@ -1,7 +1,6 @@
 // The image of a pool, stored and printed.
 use crate::spelling;
 use crate::words::MOST;
-use images::WriteAnswer;
 use pools::Pool;
 use std::io;
 use std::io::Write;
@@ -9,10 +8,7 @@ use test_text::within;
 
 // Stores the image of a pool. Answers its length, 0 for a pool that no image gives.
 pub fn stored(pool: Pool, buffer: &mut [u8]) -> usize {
-    match images::write(pool, buffer) {
-        WriteAnswer::Written(size) => size,
-        WriteAnswer::Refused(_) => 0,
-    }
+    images::write(pool, buffer).unwrap_or(0)
 }
 
 // The image, `-` for a pool that no image gives.

@@ -1,57 +1,50 @@
 // The printed answers. Those of changes are printed in `changes`.
 use crate::pool_images;
-use history::CapacityAnswer;
-use images::WriteAnswer;
-use lookups::{CopiesAnswer, OwnerAnswer, PointAnswer};
+use lookups::CopiesAnswer;
 use pools::PoolAnswer;
-use sha1_digest::DigestAnswer;
+use refusals::Refusal;
 use std::io;
 use std::io::Write;
 use test_text::{end_line, first, pair, space, spaced};
-use valid_pools::{ReportAnswer, ShareAnswer};
+use valid_pools::DeviceReport;
 
-pub fn digest<W: Write>(out: &mut W, answer: DigestAnswer) -> io::Result<()> {
-    let list = answer.words;
-    first(out, answer.refusal)?;
+// The number of a refusal, or 0 and the value.
+pub fn reply<W: Write>(out: &mut W, answer: Result<u64, Refusal>) -> io::Result<()> {
+    match answer {
+        Ok(value) => pair(out, 0, value),
+        Err(refusal) => pair(out, u32::from(refusal), 0),
+    }
+}
+
+pub fn digest<W: Write>(out: &mut W, answer: Result<[u32; 5], Refusal>) -> io::Result<()> {
+    let (number, words) = match answer {
+        Ok(words) => (0, words),
+        Err(refusal) => (u32::from(refusal), [0; 5]),
+    };
+    first(out, number)?;
     space(out)?;
-    test_text::hexadecimal(out, &list)?;
+    test_text::hexadecimal(out, &words)?;
     end_line(out)
 }
 
-pub fn capacity<W: Write>(out: &mut W, answer: CapacityAnswer) -> io::Result<()> {
-    match answer {
-        CapacityAnswer::Thousandths(value) => pair(out, 0, value),
-        CapacityAnswer::Refused(refusal) => pair(out, refusal, 0),
-    }
-}
-
-pub fn point<W: Write>(out: &mut W, answer: PointAnswer) -> io::Result<()> {
-    match answer {
-        PointAnswer::Point(point) => pair(out, 0, point),
-        PointAnswer::Refused(refusal) => pair(out, refusal, 0),
-    }
-}
-
-pub fn owner<W: Write>(out: &mut W, answer: OwnerAnswer) -> io::Result<()> {
-    match answer {
-        OwnerAnswer::Owner(owner) => pair(out, 0, owner),
-        OwnerAnswer::Refused(refusal) => pair(out, refusal, 0),
-    }
-}
-
-pub fn share<W: Write>(out: &mut W, answer: ShareAnswer) -> io::Result<()> {
-    match answer {
-        ShareAnswer::Share(points) => pair(out, 0, points),
-        ShareAnswer::Refused(refusal) => pair(out, refusal, 0),
-    }
-}
-
-pub fn report<W: Write>(out: &mut W, answer: ReportAnswer) -> io::Result<()> {
-    first(out, answer.refusal)?;
-    spaced(out, answer.whole)?;
-    spaced(out, answer.remainder)?;
-    spaced(out, answer.difference)?;
+fn report_numbers<W: Write>(out: &mut W, number: u32, report: DeviceReport) -> io::Result<()> {
+    first(out, number)?;
+    spaced(out, report.whole)?;
+    spaced(out, report.remainder)?;
+    spaced(out, report.difference)?;
     end_line(out)
+}
+
+pub fn report<W: Write>(out: &mut W, answer: Result<DeviceReport, Refusal>) -> io::Result<()> {
+    let none = DeviceReport {
+        whole: 0,
+        remainder: 0,
+        difference: 0,
+    };
+    match answer {
+        Ok(report) => report_numbers(out, 0, report),
+        Err(refusal) => report_numbers(out, u32::from(refusal), none),
+    }
 }
 
 pub fn copies<W: Write>(out: &mut W, answer: CopiesAnswer) -> io::Result<()> {
@@ -74,17 +67,11 @@ pub fn made<W: Write>(out: &mut W, answer: PoolAnswer) -> io::Result<()> {
 }
 
 // The refusal number and the length of a write, the length also as the answer; the buffer follows.
-pub fn written<W: Write>(out: &mut W, answer: WriteAnswer) -> io::Result<usize> {
-    let mut size = 0;
-    let mut number = 0;
-    match answer {
-        WriteAnswer::Written(n) => {
-            size = n;
-        }
-        WriteAnswer::Refused(refusal) => {
-            number = refusal;
-        }
-    }
+pub fn written<W: Write>(out: &mut W, answer: Result<usize, Refusal>) -> io::Result<usize> {
+    let (number, size) = match answer {
+        Ok(size) => (0, size),
+        Err(refusal) => (u32::from(refusal), 0),
+    };
     first(out, number)?;
     spaced(out, size as u64)?;
     space(out)?;

@@ -20,5 +20,5 @@ pub fn bytes<W: Write>(out: &mut W, bytes: &[u8]) -> io::Result<()> {
 
 // The digest of some bytes.
 pub fn digest<W: Write>(out: &mut W, bytes: &[u8]) -> io::Result<()> {
-    test_text::hexadecimal(out, &sha1_digest::digest(bytes).words)
+    test_text::hexadecimal(out, &sha1_digest::digest(bytes).unwrap_or([0; 5]))
 }

@@ -1,13 +1,12 @@
 // The line `transcript`: what `slices` prints of a text.
 use crate::spelling;
-use history::TranscriptAnswer;
 use std::io;
 use std::io::Write;
 use test_text::{end_line, first, pair, space, spaced, within};
 
 fn run<W: Write>(out: &mut W, text: &[u8], room: &mut [u8]) -> io::Result<()> {
     match history::transcript(text, room) {
-        TranscriptAnswer::Printed(size) => {
+        Ok(size) => {
             let n = within(size, room);
             first(out, 0)?;
             spaced(out, n as u64)?;
@@ -15,7 +14,7 @@ fn run<W: Write>(out: &mut W, text: &[u8], room: &mut [u8]) -> io::Result<()> {
             spelling::digest(out, &room[..n])?;
             end_line(out)
         }
-        TranscriptAnswer::Refused(refusal) => pair(out, refusal, 0),
+        Err(refusal) => pair(out, u32::from(refusal), 0),
     }
 }
 

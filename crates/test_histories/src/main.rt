@@ -4,13 +4,13 @@
 // are made from test vectors by tools/test_histories.py. Single lines come first.
 #![tactic(auto)]
 
-ghost use Rattle.streams.specs.Inputs.{Within};
+ghost use Rattle.std.specs.Prelude.{IfOk};
+ghost use Rattle.streams.specs.Counts.{IsPrefixLen};
 
-use history::{ROOM, TranscriptAnswer};
+use history::ROOM;
 use std::fs::File;
 use std::io::Write;
 use std::{env, io};
-use streams::Input;
 
 mod single_lines;
 
@@ -31,8 +31,8 @@ fn open(rt: &HostRuntime, name: &str, ending: &str) -> io::Result<File> {
 }
 
 // Reads a file, or as much of it as there is room for, and closes it.
-fn read(mut file: File, bytes: &mut [u8]) -> Input
-    ensures { Within result bytes.new }
+fn read(mut file: File, bytes: &mut [u8]) -> io::Result<usize>
+    ensures { IfOk result (λ n. IsPrefixLen n bytes.new) }
 {
     streams::read_to_end(&mut file, bytes)
 }
@@ -40,8 +40,8 @@ fn read(mut file: File, bytes: &mut [u8]) -> Input
 // Whether the transcript of a text is what is expected.
 fn agrees(text: &[u8], out: &mut [u8], expected: &[u8]) -> bool {
     match history::transcript(text, out) {
-        TranscriptAnswer::Printed(n) => n <= out.len() && &out[..n] == expected,
-        TranscriptAnswer::Refused(_) => false,
+        Ok(n) => n <= out.len() && &out[..n] == expected,
+        Err(_) => false,
     }
 }
 
@@ -56,13 +56,13 @@ fn compare(
     let Ok(text_file) = open(rt, name, ".in") else {
         return Verdict::Missing;
     };
-    let Input::Read(size) = read(text_file, text) else {
+    let Ok(size) = read(text_file, text) else {
         return Verdict::Missing;
     };
     let Ok(expected_file) = open(rt, name, ".out") else {
         return Verdict::Missing;
     };
-    let Input::Read(due) = read(expected_file, expected) else {
+    let Ok(due) = read(expected_file, expected) else {
         return Verdict::Missing;
     };
     if due == expected.len() {

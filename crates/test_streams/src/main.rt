@@ -6,11 +6,10 @@
 // the system answers alike; as never opened a reader and writer whose calls fail with that error.
 #![tactic(auto)]
 
-use history_streams::Outcome;
+use history_streams::Failure;
 use std::fs::{File, OpenOptions};
 use std::io::{Error, ErrorKind, Read, Write};
 use std::{fs, io};
-use streams::Input;
 
 // The system's number of the error that a descriptor is not open for a call.
 const BAD_DESCRIPTOR: i32 = 9;
@@ -51,8 +50,8 @@ fn reason(error: Error) -> &'static str {
 fn read<R: Read>(rt: &HostRuntime, name: &str, input: &mut R) -> io::Result<()> {
     let mut text = history_streams::text_room();
     match streams::read_to_end(input, &mut text) {
-        Input::Read(n) => println!(rt; "{name}: read {n}"),
-        Input::Failed(error) => {
+        Ok(n) => println!(rt; "{name}: read {n}"),
+        Err(error) => {
             let why = reason(error);
             println!(rt; "{name}: not read: {why}")
         }
@@ -78,12 +77,12 @@ fn transcribe<R: Read, W: Write>(
     output: &mut W,
 ) -> io::Result<()> {
     match history_streams::transcribe(input, output) {
-        Outcome::Printed => println!(rt; "{name}: transcript printed"),
-        Outcome::Unread(error) => {
+        Ok(()) => println!(rt; "{name}: transcript printed"),
+        Err(Failure::Unread(error)) => {
             let why = reason(error);
             println!(rt; "{name}: history not read: {why}")
         }
-        Outcome::Unwritten(error) => {
+        Err(Failure::Unwritten(error)) => {
             let why = reason(error);
             println!(rt; "{name}: transcript not written: {why}")
         }

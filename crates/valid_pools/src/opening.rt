@@ -4,7 +4,7 @@ ghost use Rattle.slicing_core.specs.Stages.{Decides};
 ghost use Rattle.packed_runs.specs.Words.{room};
 ghost use Rattle.opened.specs.OpenPools.{state_in, Open};
 ghost use Rattle.pools.specs.Pools.{state_of, ValidPool, Cleared};
-ghost use Rattle.valid_pools.specs.Opening.{Entered};
+ghost use Rattle.valid_pools.specs.Opening.{Widened, Entered};
 
 use opened::Opened;
 use packed_runs::{ROOM, blank};
@@ -14,12 +14,32 @@ use pools::Pool;
 use shares::shares;
 use slicing::MAX_DEVICES;
 
+// Copies n ids, and the numbers beside them, into 64-bit places.
+fn widen(into: &mut [u64], beside: &mut [u64], ids: &[u16], values: &[u32], n: usize)
+    requires { (length ids.now ≡ n) × (length values.now ≡ n) × (length into.old ≡ n) × (length beside.old ≡ n) }
+    ensures ids { Widened ids.now n into.new }
+    ensures values { Widened values.now n beside.new }
+{
+    // A loop: with a map of each array a pool of eight devices took three tenths more instructions to check.
+    for i in 0..n {
+        into[i] = u64::from(ids[i]);
+        beside[i] = u64::from(values[i]);
+    }
+}
+
 // A pool's numbers as those of an opened one, which has nothing yet.
 fn entered(pool: Pool) -> Opened
     ensures { Entered pool result }
 {
-    let ids = pool.ids.map(u64::from);
-    let capacities = pool.capacities.map(u64::from);
+    let mut ids = [0u64; MAX_DEVICES];
+    let mut capacities = [0u64; MAX_DEVICES];
+    widen(
+        &mut ids,
+        &mut capacities,
+        &pool.ids,
+        &pool.capacities,
+        MAX_DEVICES,
+    );
     Opened {
         range: pool.range,
         limit: u64::from(pool.limit),

@@ -3,6 +3,7 @@ use mathlib.Core.Path.{sym, ◌∙◌}
 use native.Mathlib.Omega.{arith}
 use lib.ListN.{length}
 use borrow.Author.Tests.{eqb-false}
+use Rattle.lookups.proofs.Promised.{owner_in}
 use Rattle.opened_lookups.proofs.OpenedLookups.{owned_in_told}
 use Rattle.opened_lookups.proofs.opened_owner.Goals as goal
 
@@ -11,4 +12,4 @@ returns c =
     let a = c.args in
     owned_in_told a.starts.now a.owners.now a.numbers.now a.point a.answer.now
     (omega (arith, eqb-false (length a.answer.now) 0 (sym c.is_empty.ensures ∙ c.if-is_empty.false)))
-    c.owner_in-found.result _ c.owner_in-found.ensures c.put_owner.ensures
+    c.owner-found.result _ (owner_in c.table_of.ensures c.owner-found.ensures) c.put_owner.ensures

@@ -5,4 +5,4 @@ use Rattle.image_lookups.proofs.copying.copy_many.Given as goal
 
 abbrev pub invariant-loop-i : goal.invariant-loop-i
 invariant-loop-i l =
-    Many (state_of l.pool) l.k l.blocks l.initial.rows l.initial.after l.rows l.after l.i
+    Many (state_of l.fn.pool) l.k l.blocks l.initial.rows l.initial.after l.rows l.after l.i

@@ -1,8 +1,7 @@
 -- `images::reader::read_open` meets its contract: the tests are those of the promise, in their order, and the pool is that of the bytes,
 -- opened.
-use mathlib.Core.Path.{sym, subst}
+use mathlib.Core.Path.{refl, sym, subst}
 use native.Mathlib.Omega.{arith}
-use borrow.Author.Tests.{not-true, not-false}
 use Rattle.pools.specs.Pools.{Cleared}
 use Rattle.images.specs.Promises.{faulty}
 use Rattle.images.proofs.PoolsRead.{pool_in_cleared}
@@ -20,20 +19,18 @@ returns-then-n-gt-MAX_DEVICES-clause-read c =
       | then-n-gt-MAX_DEVICES-via-else-n-gt-MAX_DEVICES+then-q-gt-MAX_INTERVALS w ↦ omega arith
       | then-n-gt-MAX_DEVICES-via-else-n-gt-MAX_DEVICES+else-q-gt-MAX_INTERVALS+then-image-n w ↦ omega arith
     ])
-    c.refused-then-n-gt-MAX_DEVICES.ensures
+    refl
 
-pub open_cleared-checked-requires : goal.open_cleared-checked-requires
-open_cleared-checked-requires c =
+pub open_cleared-requires : goal.open_cleared-requires
+open_cleared-requires c =
     (subst Cleared (sym c.described-pool.ensures) (pool_in_cleared _), c.requires)
 
-pub returns-then-not-checked-clause-read : goal.returns-then-not-checked-clause-read
-returns-then-not-checked-clause-read c =
-    faulty (cc) (cc) (not_valid _ _ c.described-pool.ensures (rw (not-true _ c.if-not-checked.true) at c.open_cleared-checked.ensures.valid))
-    c.refused-then-not-checked.ensures
+pub returns-in_default-clause-read : goal.returns-in_default-clause-read
+returns-in_default-clause-read c =
+    faulty (cc) (cc) (not_valid _ _ c.described-pool.ensures c.in_default.ensures.valid) refl
 
 pub returns-clause-read : goal.returns-clause-read
 returns-clause-read c =
     read_whole _ (cc) (cc)
-    (sound _ _ _ _ c.number-n.ensures.0 c.number-q.ensures.0 c.if-image-n.false c.described-pool.ensures
-    (rw (not-false _ c.if-not-checked.false) at c.open_cleared-checked.ensures.valid))
+    (sound _ _ _ _ c.number-n.ensures.0 c.number-q.ensures.0 c.if-image-n.false c.described-pool.ensures c.in-Some.ensures.valid)
     _ c.described-pool.ensures

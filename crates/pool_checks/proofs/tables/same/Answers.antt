@@ -28,8 +28,4 @@ same_parts xs ys n l m false e =
 
 pub returns : goal.returns
 returns c =
-    let has = c.args.has.now in
-    let due = c.args.due.now in
-    let a : length has ≡ 256 = search rules in
-    let b : length due ≡ 256 = search rules in
-    same_parts has due c.args.n (omega arith) (omega arith) c.eq.result c.eq.ensures
+    search (rules, same_parts)

@@ -1,7 +1,7 @@
--- `lookup_core::owner_found` meets its contract: `most` is the number of intervals, cut off at the arrays' room.
+-- `lookup_core::Columns::owner_found` meets its contract: `most` is the number of intervals, cut off at the arrays' room.
 use mathlib.Core.Path.{◌∙◌}
 use Rattle.lookup_core.proofs.HalvingSteps.{owner_found_none, owner_found_some}
-use Rattle.lookup_core.proofs.owner_found.Goals as goal
+use Rattle.lookup_core.proofs.Columns.owner_found.Goals as goal
 
 pub returns-then-most-eq0-clause-value : goal.returns-then-most-eq0-clause-value
 returns-then-most-eq0-clause-value c =

@@ -1,4 +1,4 @@
--- `lookup_core::probe_owners` meets its contract. The loop's invariant: the owners chosen stand in the list, then zeros, and the probing
+-- `lookup_core::Columns::probe_owners` meets its contract. The loop's invariant: the owners chosen stand in the list, then zeros, and the probing
 -- from probe `t` on is the whole probing.
 use mathlib.Core.Path.{◌≡◌, sym, ap, ◌∙◌}
 use mathlib.Core.List.{List}
@@ -7,8 +7,8 @@ use Rattle.lookup_core.specs.Halving.{owner_found, clamped}
 use Rattle.lookup_core.specs.Probes.{point_of}
 use Rattle.lookup_core.specs.Probing.{owner_of}
 use Rattle.lookup_core.proofs.ProbeSteps.{probing_start, probing_again, probing_more, probing_last, probing_end}
-use Rattle.lookup_core.proofs.probe_owners.Goals as goal
-use Rattle.lookup_core.proofs.probe_owners.Goals.{then-not-chosen+else-found-k, else-not-chosen}
+use Rattle.lookup_core.proofs.Columns.probe_owners.Goals as goal
+use Rattle.lookup_core.proofs.Columns.probe_owners.Goals.{then-not-chosen+else-found-k, else-not-chosen}
 
 -- the owner that was found is that of probe t
 probed : (s o : List ℕ) (n R block t : ℕ) {p d : ℕ} → d ≡ owner_found s o (clamped n) p → p ≡ point_of block t R → d ≡ owner_of s o n R block t
