@@ -3,19 +3,16 @@
 --   refused_before, refused_range   a change line before a range line, and a range line after one
 --   advanced_range            a range line before any other
 --   places_length             how many places the list of a change line has
---   number_some               a refusal's number is not 0
---   plan_accepted, plan_declined   what a plan is, and what its refusal is
 --   planned_few, advanced_planned, advanced_declined   a change line, from the plan of its change, or from its refusal
-use mathlib.Core.Path.{◌≡◌, refl, sym, ◌∙◌, subst}
+use mathlib.Core.Path.{◌≡◌, refl, sym, ◌∙◌}
 use mathlib.Core.Bool.{Bool, true, false}
 use mathlib.Core.List.{List}
 use Prim.Native.Nat.{ℕ, ◌≤◌}
 use native.Mathlib.Omega.{arith}
 use lib.ListN.{length, length-replicate}
 use Rattle.std.specs.Prelude.{Ok, Err}
-use Rattle.refusals.specs.Replies.{number}
 use Rattle.refusals.specs.declared.Refusal.{Refusal}
-use Rattle.refusals.specs.declared.Refusal.TheVariants.{Shapeless, Outside, Misplaced, Present, Absent, Full, OnlyDevice, OverLimit, ShortList, NoDevice, CopiesOutside, FewOwners, PointOutside, Unmarked, OtherVersion, Faulty, ShortBuffer}
+use Rattle.refusals.specs.declared.Refusal.TheVariants.{Misplaced}
 use Rattle.slicing.specs.Changes.{Outcome, fresh, change}
 use Rattle.slicing.specs.SixSteps.{Move, move}
 use Rattle.slicing.proofs.Changes.{change_refused}
@@ -26,7 +23,8 @@ use Rattle.opened.proofs.OpenPools.{open_intervals}
 use Rattle.calls.specs.declared.Call.{Call}
 use Rattle.calls.specs.declared.Call.TheVariants.{Add, Remove, Resize}
 use Rattle.plans.specs.declared.Plan.{Plan}
-use Rattle.plans.specs.Plans.{Accepted, Declined, Planned, accepts, refuses}
+use Rattle.plans.specs.Plans.{Planned}
+use Rattle.plans.proofs.Planning.{number_some, planned_accepted, planned_declined}
 use Rattle.calls.specs.Calls.{change_of}
 use Rattle.history_lines.specs.declared.lines.HistoryLine.TheVariants.{Range}
 use Rattle.history_steps.specs.Advances.{reading_in, changing, Advanced, refused, accepted}
@@ -60,36 +58,8 @@ advanced_range h R M table e o f = accepted _ refl (rw (e, f.1)) f.0
 pub places_length : length places ≡ 4096
 places_length = length-replicate 4096 (move 0 0 0 0)
 
-pub number_some : (e : Refusal) → 1 ≤ number e
-number_some Shapeless = omega arith
-number_some Outside = omega arith
-number_some Misplaced = omega arith
-number_some Present = omega arith
-number_some Absent = omega arith
-number_some Full = omega arith
-number_some OnlyDevice = omega arith
-number_some OverLimit = omega arith
-number_some ShortList = omega arith
-number_some NoDevice = omega arith
-number_some CopiesOutside = omega arith
-number_some FewOwners = omega arith
-number_some PointOutside = omega arith
-number_some Unmarked = omega arith
-number_some OtherVersion = omega arith
-number_some Faulty = omega arith
-number_some ShortBuffer = omega arith
-
-module _ {outcome : List Move → Outcome} {k : ℕ} {work next : List ℕ} where
-  pub plan_accepted : {m : Plan} → Planned outcome k (Ok m) work next → Accepted outcome k m work next
-  plan_accepted (accepts m is a) = subst (λ (q : Plan). Accepted outcome k q work next) (cc) a
-  plan_accepted (refuses e is d) = absurd (cc)
-
-  pub plan_declined : {e : Refusal} → Planned outcome k (Err e) work next → Declined outcome k e
-  plan_declined (accepts m is a) = absurd (cc)
-  plan_declined (refuses e is d) = subst (λ (q : Refusal). Declined outcome k q) (cc) d
-
-  pub planned_few : {m : Plan} → Planned outcome k (Ok m) work next → m.after.intervals ≤ 4096
-  planned_few p = open_intervals (plan_accepted p).opened
+pub planned_few : {outcome : List Move → Outcome} {k : ℕ} {work next : List ℕ} {m : Plan} → Planned outcome k (Ok m) work next → m.after.intervals ≤ 4096
+planned_few p = open_intervals (planned_accepted p).opened
 
 -- a change line after a range line, by its plan with a list of k places
 module _ (o : Opened) (table : List ℕ) (call : Call) (k : ℕ) (lent : length places ≡ k) (b : Bool) (t : b ≡ true) where
@@ -101,7 +71,7 @@ module _ (o : Opened) (table : List ℕ) (call : Call) (k : ℕ) (lent : length 
       → runs after 0 m.after.intervals ≡ runs next 0 m.after.intervals → length after ≡ room
       → Advanced (reading_in b o table) (changing call) (Ok (record { moved = m.moved; count = m.count; pool = m.after })) table after
   advanced_planned {m} {work} {next} {after} planned e l =
-      let p = plan_accepted planned in
+      let p = planned_accepted planned in
       let state = state_renewed m.after next after e ∙ p.state places lent in
       accepted _ refl
       (line_begun (reading_in b o table) call t ∙ rw (p.number places lent, sym (p.moved places lent), sym (p.count places lent), sym state))
@@ -110,7 +80,7 @@ module _ (o : Opened) (table : List ℕ) (call : Call) (k : ℕ) (lent : length 
   -- refused: it is as it was
   pub advanced_declined : {e : Refusal} {work next : List ℕ} → Planned outcome k (Err e) work next → Advanced (reading_in b o table) (changing call) (Err e) table table
   advanced_declined {e} planned =
-      let d = plan_declined planned in
+      let d = planned_declined planned in
       let number_is = d.number places lent in
       let u = change_refused (state_in o table) places (change_of call) (omega (arith, number_is, number_some e)) in
       refused e refl (line_begun (reading_in b o table) call t ∙ rw (number_is, u.moved, u.count, u.state, t)) refl

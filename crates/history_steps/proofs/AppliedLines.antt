@@ -17,6 +17,7 @@ use Rattle.opened.specs.declared.Opened.{Opened}
 use Rattle.opened.specs.OpenPools.{state_in}
 use Rattle.calls.specs.declared.Call.{Call}
 use Rattle.plans.specs.Plans.{Planned}
+use Rattle.plans.proofs.Planning.{number_some, planned_declined}
 use Rattle.calls.specs.Calls.{change_of}
 use Rattle.pools.specs.Pools.{state_of, pool_of, ValidPool}
 use Rattle.pools.specs.declared.Pool.{Pool}
@@ -28,7 +29,7 @@ use Rattle.history_steps.specs.declared.applying.History.{History}
 use Rattle.history_steps.specs.declared.applying.LineResult.{LineResult}
 use Rattle.history_steps.specs.Promises.{refused, result_line, applied_line, ChangedLine, Said, Applied}
 use Rattle.history_steps.specs.Steps.{places}
-use Rattle.history_steps.proofs.AdvancedLines.{places_length, number_some, plan_declined}
+use Rattle.history_steps.proofs.AdvancedLines.{places_length}
 
 -- ---- a change line
 
@@ -51,7 +52,7 @@ module _ (h : History) (b : h.begun ≡ true) (v : ValidPool h.pool) (o : Opened
 
   pub changed_declined : {e : Refusal} {work next : List ℕ} → Planned outcome 4096 (Err e) work next → ChangedLine h (change_of call) (refused h (number e))
   changed_declined {e} planned =
-      let d = plan_declined planned in
+      let d = planned_declined planned in
       let number_is = d.number places places_length in
       let u = change_refused (state_in o table) places (change_of call) (omega (arith, number_is, number_some e)) in
       let pool : h.pool ≡ pool_of settled.state = sym v.same ∙ ap pool_of (sym (u.state ∙ s)) in
