@@ -21,14 +21,14 @@ Hashes u n ws = (u.number ≡ n) × (u.words ≡ ws)
 module _ (m : List ℕ) (r : Result (List ℕ) Refusal) (k : Digested m r) where
   -- over 65,536 bytes: 2 and five zeros
   pub digest_long : 65536 < length m → (r ≡ Err Outside) × Hashes (digest_reply r) 2 (0 ∷ 0 ∷ 0 ∷ 0 ∷ 0 ∷ [])
-  digest_long h = let e = lt-ltb 65536 (length m) h in (rw e at k.answer, rw e at k.number, rw e at k.words)
+  digest_long h = let e = lt-ltb 65536 (length m) h in (rw e at k.answer, (rw e at k.number, rw e at k.words))
 
   -- else 0 and the digest of FIPS 180-4
   pub digest_hashed : length m ≤ 65536 → (r ≡ Ok (digest m)) × Hashes (digest_reply r) 0 (digest m)
-  digest_hashed h = let e = le-ltb 65536 (length m) h in (rw e at k.answer, rw e at k.number, rw e at k.words)
+  digest_hashed h = let e = le-ltb 65536 (length m) h in (rw e at k.answer, (rw e at k.number, rw e at k.words))
 
 pub first_word : (high low w : ℕ) → w ≡ get_or (digest (bytes 8 high ++ bytes 4 low)) 0 0
     → (r : Result (List ℕ) Refusal) → Digested (bytes 8 high ++ bytes 4 low) r → w ≡ get_or (digest_reply r).words 0 0
 first_word high low w e r k =
     let n : length (bytes 8 high ++ bytes 4 low) ≡ 12 = refl in
-    e ∙ ap (λ ws. get_or ws 0 0) (sym (digest_hashed (bytes 8 high ++ bytes 4 low) r k (omega (arith, n))).2)
+    e ∙ ap (λ ws. get_or ws 0 0) (sym (digest_hashed (bytes 8 high ++ bytes 4 low) r k (omega (arith, n))).1.1)

@@ -18,7 +18,7 @@ use lib.IntN.{ℤ, pos, negsuc, neg_ℤ, ◌+ℤ◌, ◌-ℤ◌}
 use lib.ListN.{length, drop}
 use lib.Signed.{◌<ℤ◌}
 use Rattle.slicing.specs.Devices.{Device, device, capacities, present, capacity_of, Rising}
-use Rattle.slicing.specs.Reports.{Report, report_of, report, no_report, differences}
+use Rattle.slicing.specs.Reports.{Report, report_of, report, differences}
 use Rattle.slicing.specs.ShareRule.{share_of}
 use Rattle.slicing.proofs.Cases.{many, three_devices, report_three, report_reverse}
 use Rattle.slicing.proofs.Devices.{rising_some, capacity_of_member}

@@ -26,7 +26,7 @@ use Rattle.image_numbers.specs.Format.{image_of, state_in, Image}
 use Rattle.images.specs.Promises.{ReadAs, unmarked, versioned, faulty, accepted, WrittenAs}
 use Rattle.std.specs.Prelude.{Result, Ok, Err}
 use Rattle.refusals.specs.declared.Refusal.{Refusal}
-use Rattle.refusals.specs.declared.Refusal.TheVariants.{Outside, ShortBuffer}
+use Rattle.refusals.specs.declared.Refusal.TheVariants.{ShortBuffer}
 use Rattle.image_numbers.proofs.ByteNumbers.{Bytes}
 use Rattle.images.proofs.ImageLaws.{image_of_state_in, state_in_image_of, image_image_of, image_of_injective}
 

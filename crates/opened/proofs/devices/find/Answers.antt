@@ -1,5 +1,4 @@
 -- `opened::devices::find` meets its contract: an id is present where its place among rising ids has it, and nowhere else.
-use mathlib.Core.Path.{sym}
 use native.Mathlib.Omega.{arith}
 use Rattle.slicing_core.proofs.DeviceRows.{position_present, position_absent}
 use Rattle.opened.proofs.devices.find.Goals as goal

@@ -1,6 +1,5 @@
 -- `valid_pools::finding::find_device` meets its contract: each return by the answers that led there.
 use mathlib.Core.Path.{sym, ◌∙◌}
-use native.Mathlib.Omega.{arith}
 use Rattle.opened.proofs.OpenPools.{open_few, open_rising, open_ascending}
 use Rattle.valid_pools.proofs.FoundDevices.{found_two, found_five, found_present}
 use Rattle.valid_pools.proofs.finding.find_device.Goals as goal
