@@ -63,7 +63,7 @@ pub shared-after-requires : goal.shared-after-requires
 shared-after-requires c =
     let within = inside_limits _ _ (sym c.device_outside.ensures ∙ c.if-device_outside.false) in
     let n = next_add c.requires.0 within c.if-n-ge-MAX_DEVICES.false c.in-Err.ensures.0 (c.in-Err.ensures.1 c.args.before.capacities)
-        c.insert_row-names.ensures c.insert_row-grown.ensures in
+    c.insert_row-names.ensures c.insert_row-grown.ensures in
     (n.some, n.most, c.requires.0.valid.most, n.rising)
 
 pub raise-requires : goal.raise-requires
@@ -78,8 +78,8 @@ pub settle-requires : goal.settle-requires
 settle-requires c =
     let within = inside_limits _ _ (sym c.device_outside.ensures ∙ c.if-device_outside.false) in
     let ready = prepared_add c.requires.0 (omega (arith, c.if-n-eq0.false)) _ _ within c.if-n-ge-MAX_DEVICES.false c.in-Err.ensures.0
-        (c.in-Err.ensures.1 c.args.before.capacities) c.insert_row-names.ensures c.insert_row-grown.ensures c.insert_row.ensures
-        (c.shared-after.ensures.same, (c.shared-after.ensures.shares, c.shared-after.ensures.has_len)) c.raise.ensures.q_after in
+    (c.in-Err.ensures.1 c.args.before.capacities) c.insert_row-names.ensures c.insert_row-grown.ensures c.insert_row.ensures
+    (c.shared-after.ensures.same, (c.shared-after.ensures.shares, c.shared-after.ensures.has_len)) c.raise.ensures.q_after in
     (ready.merged, c.raise.ensures.into_len, c.requires.2)
 
 pub returns : goal.returns
@@ -87,8 +87,8 @@ returns c =
     let inside = sym c.device_outside.ensures ∙ c.if-device_outside.false in
     let absent = c.in-Err.ensures.1 c.args.before.capacities in
     let ready = prepared_add c.requires.0 (omega (arith, c.if-n-eq0.false)) _ c.shared-after.result (inside_limits _ _ inside) c.if-n-ge-MAX_DEVICES.false
-        c.in-Err.ensures.0 absent c.insert_row-names.ensures c.insert_row-grown.ensures c.insert_row.ensures
-        (c.shared-after.ensures.same, (c.shared-after.ensures.shares, c.shared-after.ensures.has_len)) c.raise.ensures.q_after in
+    c.in-Err.ensures.0 absent c.insert_row-names.ensures c.insert_row-grown.ensures c.insert_row.ensures
+    (c.shared-after.ensures.same, (c.shared-after.ensures.shares, c.shared-after.ensures.has_len)) c.raise.ensures.q_after in
     let a = c.args in record {
       planned = add_settle a.before a.table.now a.id a.capacity inside absent c.if-n-ge-MAX_DEVICES.false
           (omega (arith, c.if-n-eq0.false)) ready c.settle.ensures.planned;

@@ -55,14 +55,14 @@ insert_row-requires c =
 pub settle-requires : goal.settle-requires
 settle-requires c =
     let ready = prepared_remove c.requires.0 (omega (arith, c.if-n-le1.false)) _ _ c.if-n-le1.false (c.in-Ok.ensures.1, c.in-Ok.ensures.2) c.delete_row-ids.ensures c.delete_row-fewer.ensures
-        (c.shared-after.ensures.same, (c.shared-after.ensures.shares, c.shared-after.ensures.has_len)) c.insert_row.ensures c.raise.ensures.q_after in
+    (c.shared-after.ensures.same, (c.shared-after.ensures.shares, c.shared-after.ensures.has_len)) c.insert_row.ensures c.raise.ensures.q_after in
     (ready.merged, c.raise.ensures.into_len, c.requires.2)
 
 pub returns : goal.returns
 returns c =
     let known = sym c.outside.ensures ∙ c.if-outside.false in
     let ready = prepared_remove c.requires.0 (omega (arith, c.if-n-le1.false)) _ c.shared-after.result c.if-n-le1.false (c.in-Ok.ensures.1, c.in-Ok.ensures.2) c.delete_row-ids.ensures c.delete_row-fewer.ensures
-        (c.shared-after.ensures.same, (c.shared-after.ensures.shares, c.shared-after.ensures.has_len)) c.insert_row.ensures c.raise.ensures.q_after in
+    (c.shared-after.ensures.same, (c.shared-after.ensures.shares, c.shared-after.ensures.has_len)) c.insert_row.ensures c.raise.ensures.q_after in
     let a = c.args in record {
       planned = remove_settle a.before a.table.now a.id known (c.in-Ok.ensures.3 a.before.capacities) c.if-n-le1.false ready c.settle.ensures.planned;
       work_len = c.settle.ensures.work_len;

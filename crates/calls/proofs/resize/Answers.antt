@@ -44,14 +44,14 @@ pub settle-requires : goal.settle-requires
 settle-requires c =
     let within = inside_limits _ _ (sym c.device_outside.ensures ∙ c.if-device_outside.false) in
     let ready = prepared_resize c.requires.0 (omega (arith, c.in-Ok.ensures.1)) _ _ within (c.in-Ok.ensures.1, c.in-Ok.ensures.2)
-        (c.shared-after.ensures.same, (c.shared-after.ensures.shares, c.shared-after.ensures.has_len)) c.raise.ensures.q_after in
+    (c.shared-after.ensures.same, (c.shared-after.ensures.shares, c.shared-after.ensures.has_len)) c.raise.ensures.q_after in
     (ready.merged, c.raise.ensures.into_len, c.requires.2)
 
 pub returns : goal.returns
 returns c =
     let inside = sym c.device_outside.ensures ∙ c.if-device_outside.false in
     let ready = prepared_resize c.requires.0 (omega (arith, c.in-Ok.ensures.1)) _ c.shared-after.result (inside_limits _ _ inside) (c.in-Ok.ensures.1, c.in-Ok.ensures.2)
-        (c.shared-after.ensures.same, (c.shared-after.ensures.shares, c.shared-after.ensures.has_len)) c.raise.ensures.q_after in
+    (c.shared-after.ensures.same, (c.shared-after.ensures.shares, c.shared-after.ensures.has_len)) c.raise.ensures.q_after in
     let a = c.args in record {
       planned = resize_settle a.before a.table.now a.id a.capacity inside (c.in-Ok.ensures.3 a.before.capacities) ready c.settle.ensures.planned;
       work_len = c.settle.ensures.work_len;
