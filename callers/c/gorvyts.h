@@ -13,9 +13,9 @@
  * numbers may be stored again, unchanged). Bytes past a written image stay, and so do the places of a
  * list past its moves and of rows past the last one.
  *
- * Stack: measured on x86-64 (callers/c/stack.c), the changes need 380 KB, gorvyts_replay 360,
- * gorvyts_transcript 340, gorvyts_open and the lookups on an image 180, gorvyts_check, gorvyts_numbers,
- * gorvyts_share, gorvyts_report, gorvyts_devices and gorvyts_intervals 160, gorvyts_fresh 90, gorvyts_owner_in and
+ * Stack: measured on x86-64 (callers/c/stack.c), the changes and gorvyts_replay need 380 KB,
+ * gorvyts_transcript 340, gorvyts_open and the lookups on an image 210, gorvyts_check, gorvyts_numbers,
+ * gorvyts_share, gorvyts_report, gorvyts_devices and gorvyts_intervals 190, gorvyts_fresh 60, gorvyts_owner_in and
  * gorvyts_copies_in 4. A thread of 256 KB is too small for the first three: it ends the process.
  *
  * Cost: every call on an image reads and checks all of it, which takes far longer than the lookup itself; a

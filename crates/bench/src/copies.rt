@@ -1,7 +1,6 @@
 // For bench/lookups.
 use crate::checksums::mix;
-use lookup_core::Columns;
-use lookups::{Counters, Table};
+use lookups::{Columns, Counters, Table};
 use slicing::MAX_INTERVALS;
 
 // A checksum with the first three of a list of owners.

@@ -222,11 +222,8 @@ module _ {ts : List (Run Turn)} {p n : ℕ} {pieces queue turns : List ℕ} {cou
               let k : n ≤ j = ltb-false j n e in
               absurd (z (omega (arith, rw (runs_end queue j n k) at enough_here)))
 
-      module _ (z : size ≡ 0 → ⊥) where
-        l : j < n
-        l = filling_more z
-
-        label_fits : old * 256 + row < 65536
+      module _ (l : j < n) where
+        pub label_fits : old * 256 + row < 65536
         label_fits = omega (arith, w.marked i h, w.queued j l)
 
         -- what `push` asks of the turns of a taken piece

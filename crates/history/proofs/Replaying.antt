@@ -72,7 +72,7 @@ pub stepped_refused : {h : Reading} {l : Result HistoryLine Refusal} {e : Refusa
 stepped_refused {h} {l} {e} q = let g = gives_result h l (ap (applied h) q) in declines e refl g.0 g.1 refl
 
 pub stepped_advanced : {h : Reading} {l : Result HistoryLine Refusal} {m : HistoryLine} {r : Result Step Refusal} {before after : List ℕ} → l ≡ Ok m
-    → Advanced h m r before after → Stepped h l r before after
+    → Advanced h (Ok m) r before after → Stepped h l r before after
 stepped_advanced {h} {l} q (refused e is a t) = let g = gives_result h l (ap (applied h) q ∙ a) in declines e is g.0 g.1 t
 stepped_advanced {h} {l} q (accepted s is a w) = let g = gives_result h l (ap (applied h) q ∙ a) in steps s is g.0 g.1 w
 

@@ -30,7 +30,7 @@ pub fn pool_after(text: &[u8]) -> PoolAnswer
     while from < text.len() {
         let part = part_at(text, from);
         if let Ok(said) = part.said {
-            if let Ok(step) = advance(begun, pool, said, &mut table, &mut work, &mut next) {
+            if let Ok(step) = advance(begun, pool, Ok(said), &mut table, &mut work, &mut next) {
                 begun = true;
                 pool = step.pool;
             }

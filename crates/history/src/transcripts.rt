@@ -54,7 +54,7 @@ fn replay(text: &[u8], out: &mut [u8]) -> usize
     while from < text.len() {
         let part = part_at(text, from);
         let step = match part.said {
-            Ok(said) => advance(begun, pool, said, &mut table, &mut work, &mut next),
+            Ok(said) => advance(begun, pool, Ok(said), &mut table, &mut work, &mut next),
             Err(refusal) => Err(refusal),
         };
         match step {

@@ -1,11 +1,11 @@
 -- Laws of the lines of a history: what the functions that read a line need.
 --
--- same: same_told (what `==` on slices answered)
+-- same: same_length (texts of two lengths), same_told (what `==` on slices answered)
 -- words: three_none (a first word that is none of the three); line_one, line_remove, line_two, line_three, line_four (by the number of words); line_read (what a line says is its reply)
 use mathlib.Core.Path.{◌≡◌, refl, sym, ap, ◌∙◌}
 use mathlib.Core.Bool.{Bool, true, false, ◌&&◌}
 use mathlib.Core.List.{List, [], ◌∷◌}
-use Prim.Native.Nat.{ℕ}
+use Prim.Native.Nat.{ℕ, suc}
 use lib.Dec.{eqb}
 use lib.ListN.{length, take}
 use Rattle.std.specs.Prelude.{Result, Err}
@@ -15,9 +15,16 @@ use Rattle.refusals.specs.declared.Refusal.TheVariants.{Shapeless}
 use Rattle.history_numbers.specs.Text.{space, split, number_in}
 use Rattle.history_lines.specs.Lines.{line_reply, same, range_word, add_word, remove_word, resize_word, remove_line, three_words, line_of, line_in, LineRead}
 use Rattle.history_lines.specs.declared.lines.HistoryLine.{HistoryLine}
+use Rattle.history_numbers.proofs.NumberWords.{and_false}
 use Rattle.history_numbers.proofs.Splitting.{split_some, Found, behind, cut_made, found_whole, cut_split}
 
 -- ---- same
+
+pub same_length : (a b : List ℕ) → (length a ≡ length b → ⊥) → same a b ≡ false
+same_length [] [] h = absurd (h refl)
+same_length [] (y ∷ ys) h = refl
+same_length (x ∷ xs) [] h = refl
+same_length (x ∷ xs) (y ∷ ys) h = rw (same_length xs ys (λ e. h (ap suc e))) (and_false (eqb x y))
 
 -- `==` on slices compares as `same` does
 same_eq : (a b : List ℕ) → same a b ≡ pointwise eqb a b

@@ -1,5 +1,5 @@
 // Lines of a history.
-ghost use Rattle.std.specs.Prelude.{◌≡◌, ◌≤◌, length};
+ghost use Rattle.std.specs.Prelude.{◌≡◌, ◌≤◌, IfErr, length};
 ghost use Rattle.slicing.specs.Limits.{device_outside};
 ghost use Rattle.history_lines.specs.Lines.{pair_line, remove_line, range_outside, three_words, LineRead};
 ghost use Rattle.history_lines.specs.Cuts.{part_at};
@@ -34,6 +34,16 @@ fn range_line(first: &[u8], second: &[u8]) -> Result<HistoryLine, Refusal>
     Ok(HistoryLine::Range(range, limit))
 }
 
+// The refusal of a capacity that is refused.
+fn refusal_of(answer: Result<u64, Refusal>) -> Refusal
+    ensures { IfErr answer (λ e. result ≡ e) }
+{
+    match answer {
+        Ok(_) => Refusal::Shapeless,
+        Err(refusal) => refusal,
+    }
+}
+
 // An id and a capacity, as of an added device.
 fn add_line(first: &[u8], second: &[u8]) -> Result<HistoryLine, Refusal>
     ensures { result ≡ pair_line Add device_outside (number_in first.now) (capacity_in second.now) }
@@ -41,7 +51,10 @@ fn add_line(first: &[u8], second: &[u8]) -> Result<HistoryLine, Refusal>
     let Some(id) = number(first) else {
         return Err(Refusal::Shapeless);
     };
-    let value = capacity(second)?;
+    let answer = capacity(second);
+    let Ok(value) = answer else {
+        return Err(refusal_of(answer));
+    };
     if outside(MAX_ID, id) {
         return Err(Refusal::Outside);
     }

@@ -3,7 +3,7 @@
 --   Put b i xs b'       b' is b with xs put at place i
 --   put_byte (one byte), put_behind (bytes behind bytes), put_none, put_same (the same bytes), put_room (the buffer's length)
 --   Written b i xs b' j     the same, and j is the place behind xs
---   written_behind (bytes behind bytes), length_end (the length of a field)
+--   written_behind (bytes behind bytes), length_end (the length of a field), length_three, length_four (of a line of so many)
 --   fields_left ns          the numbers of a line that are still to be written
 --   Line                    a line of which the first i numbers are written; line_none, line_room, line_more, line_all
 use mathlib.Core.Path.{◌≡◌, refl, sym, ap, ◌∙◌, subst}
@@ -91,6 +91,16 @@ pub line_none : (before : List ℕ) (place : ℕ) (ns : List ℕ) → 1 ≤ leng
 line_none before place ns h l = record { room = omega (arith, ap length (fields_all ns h)); same = refl; rest = λ b j w. w }
 
 -- room for one number more
+length_fields_more : (n m : ℕ) (ns : List ℕ) → length (fields (n ∷ m ∷ ns)) ≡ length (decimal n) + 1 + length (fields (m ∷ ns))
+length_fields_more n m ns = omega (arith, length-append (decimal n) (space ∷ fields (m ∷ ns)))
+
+pub length_three : (a b c : ℕ) → length (fields (a ∷ b ∷ c ∷ [])) ≡ length (decimal a) + length (decimal b) + length (decimal c) + 3
+length_three a b c = omega (arith, length_fields_more a b (c ∷ []), length_fields_more b c [], length_end c line_end)
+
+pub length_four : (a b c d : ℕ)
+    → length (fields (a ∷ b ∷ c ∷ d ∷ [])) ≡ length (decimal a) + length (decimal b) + length (decimal c) + length (decimal d) + 4
+length_four a b c d = omega (arith, length_fields_more a b (c ∷ d ∷ []), length_three b c d)
+
 fields_least : (n : ℕ) (ns : List ℕ) → length (decimal n) + 1 ≤ length (fields (n ∷ ns))
 fields_least n [] = omega (arith, length_end n line_end)
 fields_least n (m ∷ ns) = omega (arith, length-append (decimal n) (space ∷ fields (m ∷ ns)))

@@ -45,14 +45,14 @@ line_early h (Resize d c) e = rw e
 
 -- ---- Advanced
 
-pub refused_before : (h : Reading) (call : Call) (table : List ℕ) → h.begun ≡ false → Advanced h (changing call) (Err Misplaced) table table
+pub refused_before : (h : Reading) (call : Call) (table : List ℕ) → h.begun ≡ false → Advanced h (Ok (changing call)) (Err Misplaced) table table
 refused_before h call table e = refused Misplaced refl (line_early h call e) refl
 
-pub refused_range : (h : Reading) (R M : ℕ) (table : List ℕ) → h.begun ≡ true → Advanced h (Range R M) (Err Misplaced) table table
+pub refused_range : (h : Reading) (R M : ℕ) (table : List ℕ) → h.begun ≡ true → Advanced h (Ok (Range R M)) (Err Misplaced) table table
 refused_range h R M table e = refused Misplaced refl (rw e) refl
 
 pub advanced_range : (h : Reading) (R M : ℕ) (table : List ℕ) → h.begun ≡ false → (o : Opened) → Open o table × (state_in o table ≡ fresh R M)
-    → Advanced h (Range R M) (Ok (record { moved = 0; count = 0; pool = o })) table table
+    → Advanced h (Ok (Range R M)) (Ok (record { moved = 0; count = 0; pool = o })) table table
 advanced_range h R M table e o f = accepted _ refl (rw (e, f.1)) f.0
 
 pub places_length : length places ≡ 4096
@@ -69,7 +69,7 @@ module _ (o : Opened) (table : List ℕ) (call : Call) (k : ℕ) (lent : length 
   -- accepted: `after`, the array that the table stands in afterwards, has the runs of the new table
   pub advanced_planned : {m : Plan} {work next after : List ℕ} → Planned outcome k (Ok m) work next
       → runs after 0 m.after.intervals ≡ runs next 0 m.after.intervals → length after ≡ room
-      → Advanced (reading_in b o table) (changing call) (Ok (record { moved = m.moved; count = m.count; pool = m.after })) table after
+      → Advanced (reading_in b o table) (Ok (changing call)) (Ok (record { moved = m.moved; count = m.count; pool = m.after })) table after
   advanced_planned {m} {work} {next} {after} planned e l =
       let p = planned_accepted planned in
       let state = state_renewed m.after next after e ∙ p.state places lent in
@@ -78,7 +78,7 @@ module _ (o : Opened) (table : List ℕ) (call : Call) (k : ℕ) (lent : length 
       (open_renewed m.after next after e l p.opened)
 
   -- refused: it is as it was
-  pub advanced_declined : {e : Refusal} {work next : List ℕ} → Planned outcome k (Err e) work next → Advanced (reading_in b o table) (changing call) (Err e) table table
+  pub advanced_declined : {e : Refusal} {work next : List ℕ} → Planned outcome k (Err e) work next → Advanced (reading_in b o table) (Ok (changing call)) (Err e) table table
   advanced_declined {e} planned =
       let d = planned_declined planned in
       let number_is = d.number places lent in

@@ -3,7 +3,7 @@
 --   reading_in b o table        the reading that an opened pool holds, its table in the array
 --   changing c                 the line that says the change c
 --   result_with s table         the result that an accepted step gives, its table in the array
---   Advanced h l r before after   r is what the line l gives on the reading h, whose table is `before`; `after` is the table afterwards
+--   Advanced h l r before after   r is what a line that says l gives on the reading h, whose table is `before`; `after` is the table afterwards
 use Rattle.std.specs.Prelude.{◌≡◌, Bool, true, List, ℕ, Ok, Err}
 use Rattle.std.specs.Prelude as Prelude
 use Rattle.refusals.specs.Replies.{number}
@@ -28,7 +28,7 @@ changing (Call.Resize d c) = Resize d c
 abbrev pub result_with : Step → List ℕ → Result
 result_with s table = record { number = 0; moved = s.moved; count = s.count; after = reading_in true s.pool table }
 
-pub data Advanced (h : Reading) (l : HistoryLine) (r : Prelude.Result Step Refusal) (before after : List ℕ) : Type 0 where
+pub data Advanced (h : Reading) (l : Prelude.Result HistoryLine Refusal) (r : Prelude.Result Step Refusal) (before after : List ℕ) : Type 0 where
   -- 'A refused line changes nothing.'
-  refused : (e : Refusal) → r ≡ Err e → applied h (Ok l) ≡ refusal h (number e) → after ≡ before → Advanced h l r before after
-  accepted : (s : Step) → r ≡ Ok s → applied h (Ok l) ≡ result_with s after → Open s.pool after → Advanced h l r before after
+  refused : (e : Refusal) → r ≡ Err e → applied h l ≡ refusal h (number e) → after ≡ before → Advanced h l r before after
+  accepted : (s : Step) → r ≡ Ok s → applied h l ≡ result_with s after → Open s.pool after → Advanced h l r before after

@@ -1,10 +1,10 @@
 // One line of a history on an opened pool, whose validity is a fact that is carried.
-ghost use Rattle.std.specs.Prelude.{◌≡◌, false, List, ℕ, length};
+ghost use Rattle.std.specs.Prelude.{◌≡◌, false, List, ℕ, Ok, length};
 ghost use Rattle.opened.specs.OpenPools.{Open};
 ghost use Rattle.packed_runs.specs.Words.{room};
 ghost use Rattle.history_lines.specs.Lines.{range_outside};
 ghost use Rattle.history_lines.specs.declared.lines.HistoryLine.TheVariants.{Range};
-ghost use Rattle.history_lines.proofs.LineLimits.{Fitting};
+ghost use Rattle.history_lines.proofs.LineLimits.{Fits};
 ghost use Rattle.history_steps.specs.Advances.{Advanced, changing, reading_in};
 
 use calls::{Call, plan};
@@ -30,7 +30,7 @@ pub struct Step {
 // A range line: it comes first, once. The array stays.
 fn range_line(begun: bool, range: u64, limit: u64) -> Result<Step, Refusal>
     requires { range_outside range limit ≡ false }
-    ensures { (pool : Opened) (table : List ℕ) → length table ≡ room → Advanced (reading_in begun pool table) (Range range limit) result table table }
+    ensures { (pool : Opened) (table : List ℕ) → length table ≡ room → Advanced (reading_in begun pool table) (Ok (Range range limit)) result table table }
 {
     if begun {
         return Err(Refusal::Misplaced);
@@ -52,7 +52,7 @@ fn change(
     next: &mut [u64; ROOM],
 ) -> Result<Step, Refusal>
     requires { Open pool table.old × (length work.old ≡ room) × (length next.old ≡ room) }
-    ensures advanced { Advanced (reading_in begun pool table.old) (changing call) result table.old table.new }
+    ensures advanced { Advanced (reading_in begun pool table.old) (Ok (changing call)) result table.old table.new }
     ensures work_len { (length work.new ≡ room) × (length next.new ≡ room) }
 {
     if !begun {
@@ -67,20 +67,24 @@ fn change(
     })
 }
 
-// What a line says, on an opened pool with its table. A refused line leaves the table as it is. `work` and
-// `next` are scratch.
+// What a line says, on an opened pool with its table; one that was refused by its text passes its refusal on. A refused
+// line leaves the table as it is. `work` and `next` are scratch.
 pub fn advance(
     begun: bool,
     pool: Opened,
-    line: HistoryLine,
+    said: Result<HistoryLine, Refusal>,
     table: &mut [u64; ROOM],
     work: &mut [u64; ROOM],
     next: &mut [u64; ROOM],
 ) -> Result<Step, Refusal>
-    requires { Fitting line × Open pool table.old × (length work.old ≡ room) × (length next.old ≡ room) }
-    ensures advanced { Advanced (reading_in begun pool table.old) line result table.old table.new }
+    requires { Fits said × Open pool table.old × (length work.old ≡ room) × (length next.old ≡ room) }
+    ensures advanced { Advanced (reading_in begun pool table.old) said result table.old table.new }
     ensures work_len { (length work.new ≡ room) × (length next.new ≡ room) }
 {
+    let line = match said {
+        Ok(line) => line,
+        Err(refusal) => return Err(refusal),
+    };
     match line {
         HistoryLine::Range(range, limit) => range_line(begun, range, limit),
         HistoryLine::Add(id, capacity) => change(

@@ -17,7 +17,8 @@ use pools::close;
 use refusals::Refusal;
 
 // A change of an opened pool, whose table is `table`. It is planned with no list, so that the list stays
-// where the new image does not fit.
+// where the new image does not fit. Not inlined: its arrays, 200 KB, are not on the stack while the image is read.
+#[inline(never)]
 fn change(
     before: Opened,
     table: &[u64; ROOM],

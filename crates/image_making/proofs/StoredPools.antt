@@ -32,7 +32,7 @@ use Rattle.image_making.specs.Promises.{Stored, unstored, stored_as, answered_in
 
 -- ---- answers
 
-answered : (k : ℕ) (b a : List ℕ) (r s : Stored) → k ≤ length a → r ≡ s → r ≡ answered_in k b a s
+pub answered : (k : ℕ) (b a : List ℕ) (r s : Stored) → k ≤ length a → r ≡ s → r ≡ answered_in k b a s
 answered k b a r s h e = rw (le-ltb (length a) k h) e
 
 -- the bytes i put, or not, t telling whether the buffer is too short: what the call beneath answers, and what is left of it

@@ -2,13 +2,14 @@
 --
 -- Bytes xs                 every place of xs holds a byte
 -- bytes: bytes_low (they depend on the number modulo 2 ^ (8 * k) alone)
--- number_at: number_at_append (behind a front), number_at_zeros (behind zeros), number_at_take, number_at_drop, number_at_below
+-- number_at: number_at_append (behind a front), number_at_zeros (behind zeros), number_at_take, number_at_drop, number_at_below; number_at_join, joined
+-- (a number of two parts)
 -- a word from a part of a list: word_number
 -- both ways: bytes_number_at, number_at_low (of any number), number_at_bytes (of one that fits)
 use mathlib.Core.Path.{◌≡◌, refl, sym, ap, ap₂, ◌∙◌}
 use mathlib.Core.List.{List, [], ◌∷◌, ◌++◌, append_assoc, append-nil}
 use Prim.Native.Nat.{ℕ, zero, suc, ◌+◌, ◌-◌, ◌*◌, ◌/◌, ◌%◌, ◌^◌, ◌≤◌, ◌<◌}
-use native.Mathlib.Nat.{add-zero, zero-add, zero-mul, mod-mod, mod-eq_of_lt}
+use native.Mathlib.Nat.{add-zero, zero-add, zero-mul, add-mul, mul_assoc, add_assoc, mod-mod, mod-eq_of_lt}
 use native.Mathlib.Omega.{arith}
 use lib.Arith.{digits_lt}
 use lib.ListN.{length, take, drop, replicate, length-drop, drop_of_length-le}
@@ -52,6 +53,17 @@ number_at_zeros (suc m) k ys =
 number_at_take : (xs : List ℕ) (j k n : ℕ) → j + k ≤ n → number_at (take n xs) j k ≡ number_at xs j k
 number_at_take xs j zero n h = refl
 number_at_take xs j (suc k) n h = rw (get_or-take n xs j 0 (omega arith), number_at_take xs (suc j) k n (omega arith))
+
+pub number_at_join : (xs : List ℕ) (i a b : ℕ) → number_at xs i (a + b) ≡ number_at xs i a * 2 ^ (8 * b) + number_at xs (i + a) b
+number_at_join xs i zero b = rw (zero-add, add-zero, zero-mul, zero-add)
+number_at_join xs i (suc a) b =
+    let e : suc a + b ≡ suc (a + b) = omega arith in
+    let f : i + suc a ≡ suc i + a = omega arith in
+    let g : 8 * (a + b) ≡ 8 * a + 8 * b = omega arith in
+    rw (e, f, g, number_at_join xs (suc i) a b, pow-add, add-mul, mul_assoc, add_assoc)
+
+pub joined : (xs : List ℕ) (i a b h l : ℕ) → h ≡ number_at xs i a → l ≡ number_at xs (i + a) b → h * 2 ^ (8 * b) + l ≡ number_at xs i (a + b)
+joined xs i a b h l p q = rw (p, q, number_at_join xs i a b)
 
 pub number_at_drop : (xs : List ℕ) (i j k : ℕ) → number_at (drop i xs) j k ≡ number_at xs (i + j) k
 number_at_drop xs i j zero = refl

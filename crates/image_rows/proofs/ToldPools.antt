@@ -3,24 +3,24 @@
 -- numbers: numbered_told
 -- rows: listed_unread, listed_short, listed_told; length_device_numbers, length_interval_numbers (of an opened pool)
 -- one device: found_unread, found_told, measured_on
--- a share: shared_found (from the device found, or the refusal); a report: reported_found, reported_none
-use mathlib.Core.Path.{◌≡◌, refl, ap, ◌∙◌, subst}
+-- a share: shared_found; a report: reported_found (each from the device found, or the refusal)
+use mathlib.Core.Path.{◌≡◌, refl, sym, ap, ◌∙◌, subst}
 use mathlib.Core.Bool.{Bool, true, false, cond}
 use mathlib.Core.List.{List, ◌∷◌, ◌++◌}
 use Prim.Native.Nat.{ℕ, ◌*◌, ◌/◌, ◌≤◌, ◌<◌}
 use native.Mathlib.Omega.{arith}
-use lib.IntN.{ℤ, pos}
+use lib.IntN.{ℤ}
 use lib.ListN.{length, drop}
 use lib.Dec.{ltb}
 use borrow.Author.Tests.{lt-ltb, le-ltb}
-use Rattle.std.specs.Prelude.{Result, Ok, Err}
+use Rattle.std.specs.Prelude.{Result, Ok, Err, IfOk}
 use Rattle.refusals.specs.Replies.{number}
 use Rattle.refusals.specs.declared.Refusal.{Refusal}
 use Rattle.refusals.specs.declared.Refusal.TheVariants.{Outside, Absent}
 use Rattle.slicing.specs.Changes.{State}
 use Rattle.slicing.specs.Devices.{device, present, capacity_of}
 use Rattle.slicing.specs.Limits.{max_id, outside}
-use Rattle.slicing.specs.Reports.{no_report, report, report_of}
+use Rattle.slicing.specs.Reports.{Report, no_report, report, report_of}
 use Rattle.slicing.specs.ShareRule.{share_of}
 use Rattle.slicing.specs.Validity.{Valid}
 use Rattle.slicing_core.proofs.Rows.{length_device_rows}
@@ -32,8 +32,8 @@ use Rattle.pools.specs.declared.Pool.{Pool}
 use Rattle.pools.specs.declared.PoolAnswer.{PoolAnswer}
 use Rattle.pools.proofs.PoolLaws.{length_table_rows}
 use Rattle.plans.proofs.Planning.{number_some}
-use Rattle.valid_pools.specs.Finding.{numbers_of, found_of, FoundIn, Measured, report_from}
-use Rattle.valid_pools.specs.Promises.{share_answer}
+use Rattle.valid_pools.specs.Finding.{numbers_of, found_of, FoundIn, with_device, Measured, report_from}
+use Rattle.valid_pools.specs.Promises.{share_answer, report_reply}
 use Rattle.valid_pools.specs.declared.DeviceReport.{DeviceReport}
 use Rattle.valid_pools.specs.declared.finding.Found.{Found}
 use Rattle.valid_pools.proofs.FoundDevices.{measured_in}
@@ -113,11 +113,12 @@ module _ (xs : List ℕ) (d : ℕ) where
       go false true h = ap (λ (y : FoundReply). Ok y.device) h
       go false false h = absurd (omega (arith, ap (λ (y : FoundReply). y.number) h))
 
-  pub measured_on : (f : Found) → FoundOn xs d (Ok f) → Measured f
-  measured_on f (unmarked m e) = absurd (omega (arith, ap (λ (y : FoundReply). y.number) e))
-  measured_on f (versioned m v e) = absurd (omega (arith, ap (λ (y : FoundReply). y.number) e))
-  measured_on f (faulty m v s e) = absurd (omega (arith, ap (λ (y : FoundReply). y.number) e))
-  measured_on f (accepted i e) = measured i.sound.valid f e
+  pub measured_on : (r : Result Found Refusal) → FoundOn xs d r → IfOk r Measured
+  measured_on (Err y) h = tt
+  measured_on (Ok f) (unmarked m e) = absurd (omega (arith, ap (λ (y : FoundReply). y.number) e))
+  measured_on (Ok f) (versioned m v e) = absurd (omega (arith, ap (λ (y : FoundReply). y.number) e))
+  measured_on (Ok f) (faulty m v s e) = absurd (omega (arith, ap (λ (y : FoundReply). y.number) e))
+  measured_on (Ok f) (accepted i e) = measured i.sound.valid f e
 
 -- ---- a share
 
@@ -169,12 +170,13 @@ module _ (xs : List ℕ) (d : ℕ) (a : List ℕ) (x : ℤ) where
     room = λ j. on_image_from reply_left _ _ (λ n z. rw (lt-ltb 0 n z)) report_done h;
   }
 
-  pub reported_found : 2 ≤ length a → (f : Found) → FoundOn xs d (Ok f) → (w : DeviceReport) → w ≡ report_from f
-      → (a' : List ℕ) → a' ≡ w.whole ∷ w.remainder ∷ drop 2 a
-      → Reported xs d a x (record { number = 0; places = a'; difference = w.difference })
-  reported_found l f h w k a' e = rw (e, k) (reported (Ok f) l h)
+  -- what is told of the device found, or of its refusal, is what the answer leaves
+  reply_told : (r : Result Found Refusal) → reply_left (found_reply r) ≡ report_told a (report_reply (with_device report_from r))
+  reply_told (Ok f) = refl
+  reply_told (Err e) = rw (lt-ltb 0 (number e) (omega (arith, number_some e)))
 
-  pub reported_none : 2 ≤ length a → (y : Refusal) → FoundOn xs d (Err y) → (a' : List ℕ) → a' ≡ 0 ∷ 0 ∷ drop 2 a
-      → Reported xs d a x (record { number = number y; places = a'; difference = pos 0 })
-  reported_none l y h a' e =
-      subst (λ (m : ReportLeft). Reported xs d a x m) (rw (lt-ltb 0 (number y) (omega (arith, number_some y)), e)) (reported (Err y) l h)
+  pub reported_found : 2 ≤ length a → (r : Result Found Refusal) → FoundOn xs d r → (y : Report) → y ≡ report_reply (with_device report_from r)
+      → (a' : List ℕ) → a' ≡ y.whole ∷ y.remainder ∷ drop 2 a
+      → Reported xs d a x (record { number = y.number; places = a'; difference = y.difference })
+  reported_found l r h y k a' e =
+      rw e (subst (Reported xs d a x) (reply_told r ∙ ap (report_told a) (sym k)) (reported r l h))

@@ -4,7 +4,7 @@ ghost use Rattle.image_rows.specs.Promises.{Numbered, Shared, Reported};
 use crate::finding::find_on;
 use answers::put;
 use refusals::Refusal;
-use valid_pools::report_of;
+use valid_pools::{report_of, report_reply};
 
 // Range, limit, number of devices, number of intervals. 17 for an answer of under four places; 14 to 16 as
 // of a read.
@@ -61,17 +61,8 @@ pub fn report(image: &[u8], id: u64, answer: &mut [u64], difference: &mut i64) -
     if answer.len() < 2 {
         return u32::from(Refusal::ShortBuffer);
     }
-    match find_on(image, id) {
-        Ok(device) => {
-            let told = report_of(device);
-            put(answer, [told.whole, told.remainder]);
-            *difference = told.difference;
-            0
-        }
-        Err(refusal) => {
-            put(answer, [0; 2]);
-            *difference = 0;
-            u32::from(refusal)
-        }
-    }
+    let (number, told) = report_reply(report_of(find_on(image, id)));
+    put(answer, [told.whole, told.remainder]);
+    *difference = told.difference;
+    number
 }

@@ -1,7 +1,7 @@
 -- What a call on an image answers, from what the read of the image answered.
 --
 -- on_image_refused (a refused read gives its number), on_image_valid (an accepted read gives a valid pool), on_image_accepted (and that
--- of the image's state); on_image_from (what is made of another answer on the same image)
+-- of the image's state); on_image_number (the number of a read); on_image_from (what is made of another answer on the same image)
 use mathlib.Core.Path.{◌≡◌, ap, ◌∙◌}
 use mathlib.Core.List.{List}
 use Prim.Native.Nat.{ℕ, ◌≤◌, ◌<◌}
@@ -30,6 +30,12 @@ module _ {A : Type 0} (xs : List ℕ) (f : ℕ → A) (g : State → A) (r : A) 
 module _ (xs : List ℕ) (made : PoolAnswer) (a : ReadAs xs made) (z : made.refusal ≤ 0) where
   pub on_image_valid : ValidPool made.pool
   on_image_valid = accepted_valid xs made a (omega (arith, z))
+
+pub on_image_number : (xs : List ℕ) (made : PoolAnswer) → ReadAs xs made → OnImage xs (λ n. n) (λ s. 0) made.refusal
+on_image_number xs made (unmarked h e) = Calls.unmarked h (ap (λ a. a.refusal) e)
+on_image_number xs made (versioned h v e) = Calls.versioned h v (ap (λ a. a.refusal) e)
+on_image_number xs made (faulty h v s e) = Calls.faulty h v s (ap (λ a. a.refusal) e)
+on_image_number xs made (accepted i e) = Calls.accepted i (ap (λ a. a.refusal) e)
 
 module _ {A B : Type 0} {xs : List ℕ} {f : ℕ → A} {g : State → A} {r : A} (h : A → B) (u : ℕ → B) (v : State → B)
     (refused : (n : ℕ) → 0 < n → h (f n) ≡ u n) (done : (s : State) → h (g s) ≡ v s) where

@@ -1,13 +1,16 @@
 -- What each test of a read shows.
 --
+-- marks: marked_size (marked bytes hold a head)
 -- faults: counts (of sound bytes), not_valid (the bytes are not sound), sound (they are)
 -- the answer: read_whole
-use mathlib.Core.Path.{◌≡◌, sym, ap, ◌∙◌, subst}
-use mathlib.Core.Bool.{true}
+use mathlib.Core.Path.{◌≡◌, refl, sym, ap, ◌∙◌, subst}
+use mathlib.Core.Bool.{Bool, true, false, true≢false}
 use mathlib.Core.List.{List}
 use Prim.Native.Nat.{ℕ, ◌+◌, ◌*◌, ◌≤◌}
 use native.Mathlib.Omega.{arith}
+use lib.Dec.{leb}
 use lib.ListN.{length}
+use borrow.Author.Tests.{leb-true}
 use Rattle.pools.specs.Pools.{ValidPool}
 use Rattle.pools.specs.declared.Pool.{Pool}
 use Rattle.pools.specs.declared.PoolAnswer.{PoolAnswer}
@@ -17,6 +20,13 @@ use Rattle.image_bytes.specs.RowBytes.{pool_in}
 use Rattle.images.proofs.PoolsRead.{devices_few, intervals_few, pool_in_valid, valid_pool_in, pool_of_state_in}
 
 -- ---- faults
+
+pub marked_size : (xs : List ℕ) → marked xs ≡ true → head_size ≤ length xs
+marked_size xs m = go (leb head_size (length xs)) refl
+  where
+    go : (b : Bool) → leb head_size (length xs) ≡ b → head_size ≤ length xs
+    go true e = leb-true head_size (length xs) e
+    go false e = absurd (true≢false (sym m ∙ rw e))
 
 module _ (xs : List ℕ) where
   pub counts : Sound xs → (devices_in xs ≤ 256) × (intervals_in xs ≤ 4096) × (length xs ≡ head_size + 6 * devices_in xs + 6 * intervals_in xs)

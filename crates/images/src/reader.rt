@@ -32,26 +32,24 @@ fn described(image: &[u8], n: usize, q: usize) -> Pool
     requires image_len { length image.now ≡ head_size + 6 * n + 6 * q }
     ensures { result ≡ pool_in image.now }
 {
-    let mut ids = [0u16; MAX_DEVICES];
-    let mut capacities = [0u32; MAX_DEVICES];
-    let mut starts = [0u32; MAX_INTERVALS];
-    let mut owners = [0u16; MAX_INTERVALS];
     let range = number::<8>(image, 5);
     let limit = number::<2>(image, 13) as u32;
-    let rows = &image[HEAD..];
-    device_rows(rows, n, &mut ids, &mut capacities);
-    let end = ROW * n;
-    interval_rows(&rows[end..], q, &mut starts, &mut owners);
-    Pool {
+    // Its arrays are filled in place: a pool takes 26 KB of stack.
+    let mut pool = Pool {
         range,
         limit,
         devices: n,
-        ids,
-        capacities,
+        ids: [0; MAX_DEVICES],
+        capacities: [0; MAX_DEVICES],
         intervals: q,
-        starts,
-        owners,
-    }
+        starts: [0; MAX_INTERVALS],
+        owners: [0; MAX_INTERVALS],
+    };
+    let rows = &image[HEAD..];
+    device_rows(rows, n, &mut pool.ids, &mut pool.capacities);
+    let end = ROW * n;
+    interval_rows(&rows[end..], q, &mut pool.starts, &mut pool.owners);
+    pool
 }
 
 // The pool of an image that was read, and the same opened.

@@ -10,7 +10,8 @@ use refusals::Refusal;
 use valid_pools::valid;
 
 // Writes the image of a valid pool, and answers its length. 17 where the buffer is too short. The bytes
-// past the image stay.
+// past the image stay. Not inlined: the copy of the pool that it writes, 26 KB, is on the stack for this call alone.
+#[inline(never)]
 pub fn store(pool: Pool, buffer: &mut [u8]) -> Result<usize, Refusal>
     requires { ValidPool pool }
     ensures answer { result ≡ write_answer (state_of pool) (length buffer.old) }

@@ -8,7 +8,8 @@ ghost use Rattle.std.specs.Prelude.{◌≡◌, replicate};
 ghost use Rattle.refusals.specs.Replies.{number};
 ghost use Rattle.lookups.specs.Promises.{Located, TableOf, Looked, LookedIn, Copied, CopiedIn};
 
-use lookup_core::{Columns, PROBES, probe_point};
+pub use lookup_core::Columns;
+use lookup_core::{PROBES, probe_point};
 use pools::Pool;
 use refusals::Refusal;
 use slicing::MAX_RANGE;

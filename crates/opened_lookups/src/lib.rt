@@ -7,9 +7,8 @@ ghost use Rattle.lookups.specs.Promises.{TableOf};
 ghost use Rattle.opened_lookups.specs.Promises.{OpenedFrom, OwnedIn, CopiedOneIn};
 
 use answers::put;
-use lookup_core::Columns;
 use lookup_numbers::{ROW, counters_of, put_counters, put_owner, put_row};
-use lookups::Table;
+use lookups::{Columns, Table};
 use refusals::Refusal;
 use slicing::MAX_INTERVALS;
 

@@ -40,5 +40,8 @@ pub fn renew(table: &mut [u64; ROOM], next: &[u64; ROOM], q: usize)
     ensures q_after { runs table.new 0 q ≡ runs next.now 0 q }
     ensures table_len { length table.new ≡ room }
 {
-    table[..q].copy_from_slice(&next[..q]);
+    // A loop: between two arrays of the caller's `copy_from_slice` calls `memmove`, which an archive for C would then ask for.
+    for i in 0..q {
+        table[i] = next[i];
+    }
 }

@@ -3,20 +3,21 @@
 --   left p o R q i                       the intervals from i on, of q
 --   Rowing p o q R ids n table i         of q intervals, the first i stand in `table` as runs of rows
 --
--- left: left_end
+-- left: left_end, left_next, left_last (the first of those left)
 -- Rowing: rowing_step; at an interval that cannot stand there: rowing_short (it has no length), rowing_unknown (no owner)
 -- RowsOf: rows_first (all stand there; the first begins at 0 or not)
 use mathlib.Core.Path.{◌≡◌, refl, sym, ◌∙◌}
 use mathlib.Core.Bool.{Bool, true, false, true≢false}
-use mathlib.Core.List.{List, [], ◌++◌, append-nil}
+use mathlib.Core.List.{List, [], ◌∷◌, ◌++◌, append-nil}
 use Prim.Native.Nat.{ℕ, zero, suc, ◌+◌, ◌-◌, ◌*◌, ◌%◌, ◌≤◌, ◌<◌}
 use native.Mathlib.Omega.{arith}
+use native.Mathlib.Numerals.{add-one}
 use lib.Dec.{eqb}
 use lib.ListN.{length, set, length-set}
 use lib.Seq.{append_snoc}
 use borrow.Author.Tests.{eqb-true, eqb-false, eq-eqb}
 use Rattle.slicing.specs.Devices.{present}
-use Rattle.slicing.specs.Runs.{Run, total, owned, relabel, Coalesced}
+use Rattle.slicing.specs.Runs.{Run, ◌of◌, total, owned, relabel, Coalesced}
 use Rattle.slicing.proofs.Runs.{owned_append, relabel_append}
 use Rattle.slicing_core.specs.Rows.{at, device_rows, table_rows}
 use Rattle.packed_runs.specs.Words.{runs, room, Labelled}
@@ -29,6 +30,19 @@ left p o R q i = table_rows p o R i (q - i)
 
 left_end : (p o : List ℕ) (R q i : ℕ) → q ≤ i → left p o R q i ≡ []
 left_end p o R q i h = let e : q - i ≡ 0 = omega arith in rw e
+
+module _ (p o : List ℕ) (R q i : ℕ) where
+  pub left_next : i + 1 < q → left p o R q i ≡ (at p (i + 1) - at p i of at o i) ∷ left p o R q (i + 1)
+  left_next h =
+      let e : q - i ≡ suc (suc (q - (i + 2))) = omega arith in
+      let f : q - (i + 1) ≡ suc (q - (i + 2)) = omega arith in
+      rw (e, f, add-one i)
+
+  pub left_last : i + 1 ≡ q → left p o R q i ≡ (R - at p i of at o i) ∷ left p o R q (i + 1)
+  left_last h =
+      let e : q - i ≡ 1 = omega arith in
+      let f : q - (i + 1) ≡ 0 = omega arith in
+      rw (e, f)
 
 -- ---- the loop
 

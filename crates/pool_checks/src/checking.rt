@@ -8,8 +8,8 @@ use slicing::{MAX_DEVICES, MAX_LIMIT, MAX_RANGE, outside};
 use slicing_core::devices::rising;
 
 // Whether the numbers of a pool are within their limits.
-fn limited(pool: Pool) -> bool
-    ensures { Decides result (Limited pool) }
+fn limited(pool: &Pool) -> bool
+    ensures { Decides result (Limited pool.now) }
 {
     let limit = u64::from(pool.limit);
     if outside(MAX_RANGE, pool.range) || outside(MAX_LIMIT, limit) {
@@ -45,7 +45,7 @@ pub fn formed(pool: Pool, ids: &[u64; MAX_DEVICES], capacities: &[u64; MAX_DEVIC
     requires { Cleared pool × (ids.now ≡ pool.ids) × (capacities.now ≡ pool.capacities) }
     ensures { Decides result (Formed pool) }
 {
-    limited(pool)
+    limited(&pool)
         && rising(ids, capacities, pool.devices)
         && (pool.devices > 0 || pool.intervals == 0)
 }

@@ -84,7 +84,8 @@ fn same(has: &[u64; MAX_DEVICES], due: &[u64; MAX_DEVICES], n: usize) -> bool
 }
 
 // What each row has of q intervals that give each of the n devices its due, and the range to them alone; none of
-// others. Puts them into the array as runs of rows.
+// others. Puts them into the array as runs of rows. Not inlined, so that its arrays are on the stack for this call alone.
+#[inline(never)]
 pub fn dealt(
     starts: &[u32; MAX_INTERVALS],
     owners: &[u16; MAX_INTERVALS],

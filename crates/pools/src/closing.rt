@@ -70,7 +70,8 @@ fn owners_of(
     into
 }
 
-// The pool that an opened pool holds.
+// The pool that an opened pool holds. Not inlined: its arrays, 50 KB, are on the stack for this call alone.
+#[inline(never)]
 pub fn close(opened: Opened, table: &[u64; ROOM]) -> Pool
     requires { Open opened table.now }
     ensures { result ≡ pool_of (state_in opened table.now) }

@@ -28,7 +28,7 @@ pub fn insert_row(rows: &[u64; MAX_DEVICES], n: usize, p: usize, value: u64) -> 
     ensures { Inserted rows.now n p value result }
 {
     let mut into = *rows;
-    into.copy_within(p..n, p + 1);
+    into[p + 1..n + 1].copy_from_slice(&rows[p..n]);
     into[p] = value;
     into
 }
@@ -39,6 +39,6 @@ pub fn delete_row(rows: &[u64; MAX_DEVICES], n: usize, p: usize) -> [u64; MAX_DE
     ensures { Deleted rows.now n p result }
 {
     let mut into = *rows;
-    into.copy_within(p + 1..n, p);
+    into[p..n - 1].copy_from_slice(&rows[p + 1..n]);
     into
 }

@@ -17,34 +17,20 @@ pub fn reply<W: Write>(out: &mut W, answer: Result<u64, Refusal>) -> io::Result<
 }
 
 pub fn digest<W: Write>(out: &mut W, answer: Result<[u32; 5], Refusal>) -> io::Result<()> {
-    let (number, words) = match answer {
-        Ok(words) => (0, words),
-        Err(refusal) => (u32::from(refusal), [0; 5]),
-    };
+    let (number, words) = sha1_digest::digest_reply(answer);
     first(out, number)?;
     space(out)?;
     test_text::hexadecimal(out, &words)?;
     end_line(out)
 }
 
-fn report_numbers<W: Write>(out: &mut W, number: u32, report: DeviceReport) -> io::Result<()> {
+pub fn report<W: Write>(out: &mut W, answer: Result<DeviceReport, Refusal>) -> io::Result<()> {
+    let (number, report) = valid_pools::report_reply(answer);
     first(out, number)?;
     spaced(out, report.whole)?;
     spaced(out, report.remainder)?;
     spaced(out, report.difference)?;
     end_line(out)
-}
-
-pub fn report<W: Write>(out: &mut W, answer: Result<DeviceReport, Refusal>) -> io::Result<()> {
-    let none = DeviceReport {
-        whole: 0,
-        remainder: 0,
-        difference: 0,
-    };
-    match answer {
-        Ok(report) => report_numbers(out, 0, report),
-        Err(refusal) => report_numbers(out, u32::from(refusal), none),
-    }
 }
 
 pub fn copies<W: Write>(out: &mut W, answer: CopiesAnswer) -> io::Result<()> {

@@ -20,5 +20,6 @@ pub fn bytes<W: Write>(out: &mut W, bytes: &[u8]) -> io::Result<()> {
 
 // The digest of some bytes.
 pub fn digest<W: Write>(out: &mut W, bytes: &[u8]) -> io::Result<()> {
-    test_text::hexadecimal(out, &sha1_digest::digest(bytes).unwrap_or([0; 5]))
+    let (_number, words) = sha1_digest::digest_reply(sha1_digest::digest(bytes));
+    test_text::hexadecimal(out, &words)
 }

@@ -14,10 +14,7 @@ fn fill(out: &mut [u8]) {
 }
 
 fn print_answer<W: Write>(out: &mut W, message: &[u8]) -> io::Result<()> {
-    let (number, words) = match sha1_digest::digest(message) {
-        Ok(words) => (0, words),
-        Err(refusal) => (u32::from(refusal), [0; 5]),
-    };
+    let (number, words) = sha1_digest::digest_reply(sha1_digest::digest(message));
     first(out, number)?;
     test_text::space(out)?;
     test_text::hexadecimal(out, &words)?;

@@ -8,4 +8,4 @@ mod widths;
 
 pub use lines::{Input, PIECE, finished, read_line};
 pub use printing::{end_line, first, hexadecimal, pair, space, spaced, spaced_list};
-pub use widths::{least, narrow32, within};
+pub use widths::{least, magnitude, narrow8, narrow32, within};

@@ -1,6 +1,13 @@
 // Numbers of one width as another, and numbers that count places of a list.
-ghost use Rattle.std.specs.Prelude.{◌≤◌};
+ghost use Rattle.std.specs.Prelude.{◌≡◌, ◌≤◌, nat_abs};
 ghost use Rattle.test_text.specs.Counts.{IsPrefixLen};
+
+// The number without its sign.
+pub fn magnitude(x: i64) -> u64
+    ensures { result ≡ nat_abs x }
+{
+    x.unsigned_abs()
+}
 
 // The number, or b where it is above b.
 pub fn least(a: u64, b: usize) -> usize
@@ -10,6 +17,10 @@ pub fn least(a: u64, b: usize) -> usize
 }
 
 // The number, or the largest that fits.
+pub fn narrow8(x: u64) -> u8 {
+    u8::try_from(x).unwrap_or(u8::MAX)
+}
+
 pub fn narrow32(x: u64) -> u32 {
     u32::try_from(x).unwrap_or(u32::MAX)
 }

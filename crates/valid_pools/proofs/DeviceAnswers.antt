@@ -16,10 +16,10 @@ use Rattle.slicing.specs.Reports as Reports
 use Rattle.slicing.specs.Reports.{report_of, no_report}
 use Rattle.pools.specs.Pools.{state_of}
 use Rattle.pools.specs.declared.Pool.{Pool}
-use Rattle.valid_pools.specs.Finding.{FoundOf, found, invalid, report_from}
+use Rattle.valid_pools.specs.Finding.{FoundOf, found, invalid, with_device, report_from}
 use Rattle.valid_pools.specs.Promises.{Shared, told, report_reply, Reported}
 use Rattle.valid_pools.specs.declared.finding.Found.{Found}
-use Rattle.valid_pools.proofs.FoundDevices.{with_device, found_as}
+use Rattle.valid_pools.proofs.FoundDevices.{found_as}
 
 reply_share : (a b : Bool) (x : ℕ) → reply_of (cond a (Err Outside) (cond b (Ok x) (Err Absent))) ≡ cond a (declined 2) (cond b (replied x) (declined 5))
 reply_share true b x = refl

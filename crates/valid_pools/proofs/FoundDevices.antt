@@ -1,16 +1,15 @@
 -- Laws of a device found by its id.
 --
---   with_device f r      the answer r with f of the device that was found
 --
 -- made: found_two (an id outside its limits), found_five, found_present (its row)
 -- used: found_as (a call that answers f of the device, or the same refusal)
--- Measured: measured_in (of a valid state), measured_of (of any pool)
+-- Measured: measured_in (of a valid state), measured_of, measured_all (of any pool, also where the device is refused)
 use mathlib.Core.Path.{◌≡◌, refl, sym, ap, ◌∙◌}
 use mathlib.Core.Bool.{Bool, true, false, cond}
 use mathlib.Core.List.{List}
 use Prim.Native.Nat.{ℕ, ◌<◌}
 use native.Mathlib.Omega.{arith}
-use Rattle.std.specs.Prelude.{Result, Ok, Err}
+use Rattle.std.specs.Prelude.{Result, Ok, Err, IfOk}
 use Rattle.refusals.specs.declared.Refusal.{Refusal}
 use Rattle.refusals.specs.declared.Refusal.TheVariants.{Outside, Absent}
 use Rattle.slicing.specs.Changes.{State}
@@ -26,7 +25,7 @@ use Rattle.opened.specs.declared.Opened.{Opened}
 use Rattle.opened.specs.OpenPools.{devices_in, state_in, Open}
 use Rattle.opened.proofs.OpenPools.{open_ascending, open_share}
 use Rattle.pools.specs.declared.Pool.{Pool}
-use Rattle.valid_pools.specs.Finding.{numbers_of, FoundIn, FoundOf, found, invalid, Measured}
+use Rattle.valid_pools.specs.Finding.{numbers_of, FoundIn, FoundOf, found, invalid, with_device, Measured}
 use Rattle.valid_pools.specs.declared.finding.Found.{Found}
 
 module _ {o : Opened} {table : List ℕ} (h : Open o table) (id row : ℕ) (l : row < o.devices) (i : at o.ids row ≡ id) where
@@ -51,10 +50,6 @@ pub found_five : (s : State) (id : ℕ) → outside max_id id ≡ false → pres
 found_five s id o a = record { same = rw (o, a) }
 
 -- ---- what a call makes of it
-
-abbrev pub with_device : {A : Type 0} → (Found → A) → Result Found Refusal → Result A Refusal
-with_device f (Ok d) = Ok (f d)
-with_device f (Err e) = Err e
 
 pub found_as : {A : Type 0} {s : State} {id : ℕ} {r : Result Found Refusal} (f : Found → A) → FoundIn s id r
     → with_device f r ≡ cond (outside max_id id) (Err Outside) (cond (present id s.devices) (Ok (f (numbers_of s id))) (Err Absent))
@@ -94,3 +89,7 @@ measured_in {s} {id} {f} v h = go (outside max_id id) (present id s.devices) ref
 pub measured_of : {p : Pool} {id : ℕ} {f : Found} → FoundOf p id (Ok f) → Measured f
 measured_of (found v h) = measured_in v.valid h
 measured_of (invalid n e) = let z : ◌≡◌ {A = ℕ} 1 0 = ap accepted e in absurd (omega (arith, z))
+
+pub measured_all : {p : Pool} {id : ℕ} (r : Result Found Refusal) → FoundOf p id r → IfOk r Measured
+measured_all (Ok f) h = measured_of h
+measured_all (Err e) h = tt

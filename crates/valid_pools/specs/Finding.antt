@@ -4,6 +4,7 @@
 --   found_of s id        these, or the refusal
 --   FoundIn s id r      r is that
 --   FoundOf p id r      r is that of a valid pool p, or 2
+--   with_device f r     the answer r with f of the device that was found
 --   Measured f          products of the numbers of the device f are far inside 64 bits with a sign, and the sum is not 0
 --   report_from f        the report on the device f
 use Rattle.std.specs.Prelude.{◌≡◌, cond, ℕ, ◌+◌, ◌*◌, ◌/◌, ◌%◌, ◌≤◌, pos, ◌-ℤ◌, Result, Ok, Err}
@@ -36,6 +37,10 @@ pub record FoundIn (s : State) (id : ℕ) (r : Result Found Refusal) : Type 0 wh
 pub data FoundOf (p : Pool) (id : ℕ) (r : Result Found Refusal) : Type 0 where
   found : ValidPool p → FoundIn (state_of p) id r → FoundOf p id r
   invalid : (ValidPool p → ⊥) → r ≡ Err Outside → FoundOf p id r
+
+abbrev pub with_device : {A : Type 0} → (Found → A) → Result Found Refusal → Result A Refusal
+with_device f (Ok d) = Ok (f d)
+with_device f (Err e) = Err e
 
 pub record Measured (f : Found) : Type 0 where
   pub due : f.range * f.capacity ≤ 68719476736000000

@@ -9,7 +9,7 @@ mod sharing;
 
 pub use finding::{Found, find_device};
 pub use opening::{open, open_cleared, valid};
-pub use reporting::{report, report_of};
+pub use reporting::{report, report_of, report_reply};
 pub use sharing::share;
 
 // A report: R × c divided by C as a whole number; the remainder; share × C − R × c.

@@ -28,8 +28,8 @@ fn widen(into: &mut [u64], beside: &mut [u64], ids: &[u16], values: &[u32], n: u
 }
 
 // A pool's numbers as those of an opened one, which has nothing yet.
-fn entered(pool: Pool) -> Opened
-    ensures { Entered pool result }
+fn entered(pool: &Pool) -> Opened
+    ensures { Entered pool.now result }
 {
     let mut ids = [0u64; MAX_DEVICES];
     let mut capacities = [0u64; MAX_DEVICES];
@@ -60,7 +60,7 @@ pub fn open_cleared(pool: Pool, table: &mut [u64; ROOM]) -> Option<Opened>
     ensures table_len { length table.new ≡ room }
 {
     let n = pool.devices;
-    let mut opened = entered(pool);
+    let mut opened = entered(&pool);
     if !formed(pool, &opened.ids, &opened.capacities) {
         return None;
     }

@@ -1,26 +1,44 @@
 // The call for a report: what a device is exactly due, and how far its share lies from that.
-ghost use Rattle.std.specs.Prelude.{◌≡◌};
-ghost use Rattle.valid_pools.specs.Finding.{Measured, report_from};
-ghost use Rattle.valid_pools.specs.Promises.{Reported};
+ghost use Rattle.std.specs.Prelude.{◌≡◌, IfOk};
+ghost use Rattle.valid_pools.specs.Finding.{Measured, with_device, report_from};
+ghost use Rattle.valid_pools.specs.Promises.{report_reply, Reported};
 
 use crate::DeviceReport;
 use crate::finding::{Found, find_in};
 use pools::Pool;
 use refusals::Refusal;
 
-// The report on a device that was found.
-pub fn report_of(device: Found) -> DeviceReport
-    requires { Measured device }
-    ensures { result ≡ report_from device }
+// The report on a device that was found, or its refusal.
+pub fn report_of(device: Result<Found, Refusal>) -> Result<DeviceReport, Refusal>
+    requires { IfOk device Measured }
+    ensures { result ≡ with_device report_from device }
 {
+    let device = device?;
     let due = device.range * device.capacity;
     let whole = due / device.sum;
     let remainder = due % device.sum;
     let held = device.points * device.sum;
-    DeviceReport {
+    Ok(DeviceReport {
         whole,
         remainder,
         difference: held as i64 - due as i64,
+    })
+}
+
+// The number and the values of a report, as document 01 has them: 0 and the report, or the refusal number and zeros.
+pub fn report_reply(answer: Result<DeviceReport, Refusal>) -> (u32, DeviceReport)
+    ensures { record { number = result.0; whole = result.1.whole; remainder = result.1.remainder; difference = result.1.difference } ≡ report_reply answer }
+{
+    match answer {
+        Ok(report) => (0, report),
+        Err(refusal) => {
+            let none = DeviceReport {
+                whole: 0,
+                remainder: 0,
+                difference: 0,
+            };
+            (u32::from(refusal), none)
+        }
     }
 }
 
@@ -28,6 +46,5 @@ pub fn report_of(device: Found) -> DeviceReport
 pub fn report(pool: Pool, id: u64) -> Result<DeviceReport, Refusal>
     ensures { Reported pool id result }
 {
-    let device = find_in(pool, id)?;
-    Ok(report_of(device))
+    report_of(find_in(pool, id))
 }

@@ -24,7 +24,7 @@ bounds-queue-j c =
 
 pub push-count-requires-then-need-size : goal.push-count-requires-then-need-size
 push-count-requires-then-need-size c =
-    filling_turn c.loop-i.invariant c.loop-i-test.true c.if-piece-lt-TAKEN.false c.if-size-eq0.false c.requires.n_bound.1 _ (omega arith)
+    filling_turn c.loop-i.invariant c.loop-i-test.true c.if-piece-lt-TAKEN.false (filling_more c.loop-i.invariant c.loop-i-test.true c.if-piece-lt-TAKEN.false c.if-size-eq0.false) c.requires.n_bound.1 _ (omega arith)
 
 pub loop-i-smaller-then-need-size : goal.loop-i-smaller-then-need-size
 loop-i-smaller-then-need-size c =
@@ -32,16 +32,16 @@ loop-i-smaller-then-need-size c =
 
 pub loop-i-preserved-then-need-size : goal.loop-i-preserved-then-need-size
 loop-i-preserved-then-need-size c =
-    filling_whole c.loop-i.invariant c.loop-i-test.true c.if-piece-lt-TAKEN.false c.if-size-eq0.false (omega arith) c.if-need-size.true
+    filling_whole c.loop-i.invariant c.loop-i-test.true c.if-piece-lt-TAKEN.false (filling_more c.loop-i.invariant c.loop-i-test.true c.if-piece-lt-TAKEN.false c.if-size-eq0.false) (omega arith) c.if-need-size.true
     c.push-count-then-need-size.ensures
 
 pub push-count-requires-else-need-size : goal.push-count-requires-else-need-size
 push-count-requires-else-need-size c =
-    filling_turn c.loop-i.invariant c.loop-i-test.true c.if-piece-lt-TAKEN.false c.if-size-eq0.false c.requires.n_bound.1 _ (omega arith)
+    filling_turn c.loop-i.invariant c.loop-i-test.true c.if-piece-lt-TAKEN.false (filling_more c.loop-i.invariant c.loop-i-test.true c.if-piece-lt-TAKEN.false c.if-size-eq0.false) c.requires.n_bound.1 _ (omega arith)
 
 pub loop-i-preserved : goal.loop-i-preserved
 loop-i-preserved c =
-    filling_part c.loop-i.invariant c.loop-i-test.true c.if-piece-lt-TAKEN.false c.if-size-eq0.false c.requires.n_bound.0 c.if-need-size.false
+    filling_part c.loop-i.invariant c.loop-i-test.true c.if-piece-lt-TAKEN.false (filling_more c.loop-i.invariant c.loop-i-test.true c.if-piece-lt-TAKEN.false c.if-size-eq0.false) c.requires.n_bound.0 c.if-need-size.false
     c.push-count-else-need-size.ensures
 
 pub returns-clause-turns : goal.returns-clause-turns

@@ -1,0 +1,20 @@
+-- The test of a `while`, as a step of a walk: the turn goes on knowing that the test held, or the loop is left knowing that it failed.
+-- Assumes `Logic`.
+use Prim.Native.Nat.{ℕ}
+use mathlib.Core.Bool.{Bool, not}
+use mathlib.Core.List.{List}
+use lib.Dec.{T}
+use seplogic.Ra.Ura.{Ura}
+use mir.Syntax.{Body, Opd as Operand, skip, exit, seq, cond}
+use mir.Val.{vbool}
+use prog.Wp.{Env, Calls, Loops, exits}
+use types.Logic.{Logic}
+use types.Kit.{Item, Seq, Post, post, prop, runs, ◌$◌}
+use types.Run.{Opd, first, branches, skips, jumps}
+
+module _ {M : Type 1} {𝓤 : Ura M} {𝓛 : Logic 𝓤} {K : Type 0} {Γ : List (Item 𝓤)} {E : Env 𝓤 𝓛.H} {C : Calls 𝓤 𝓛.H} {Λ : Loops 𝓤 𝓛.H} {q : Post 𝓤 𝓛.H} where
+  open 𝓛 use {H}
+
+  pub while_test : K → {c : Operand} {n : ℕ} {b : Body} {y : Bool} → Opd K 𝓛 Γ E c (vbool y) → (T y → Seq K 𝓛 Γ (runs C Λ E b q)) → (T (not y) → Seq K 𝓛 Γ (prop (post 𝓤 H q (exits n))))
+      → Seq K 𝓛 Γ (runs C Λ E (seq (cond c skip (exit n)) b) q)
+  while_test t o held failed = first t $ branches t o (λ h. skips t $ record { prf = (held h).prf }) (λ h. jumps t $ failed h)

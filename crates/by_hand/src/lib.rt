@@ -1,0 +1,2 @@
+// Laws for proofs by hand over slices of structs, and no code: see proofs/.
+#![tactic(auto)]
