@@ -90,7 +90,7 @@ pub record Line (before : List ℕ) (place : ℕ) (ns after : List ℕ) (last i 
 pub line_none : (before : List ℕ) (place : ℕ) (ns : List ℕ) → 1 ≤ length ns → place + length (fields ns) ≤ length before → Line before place ns before place 0
 line_none before place ns h l = record { room = omega (arith, ap length (fields_all ns h)); same = refl; rest = λ b j w. w }
 
--- room for one number more
+-- the length of a line of numbers
 length_fields_more : (n m : ℕ) (ns : List ℕ) → length (fields (n ∷ m ∷ ns)) ≡ length (decimal n) + 1 + length (fields (m ∷ ns))
 length_fields_more n m ns = omega (arith, length-append (decimal n) (space ∷ fields (m ∷ ns)))
 
@@ -101,6 +101,7 @@ pub length_four : (a b c d : ℕ)
     → length (fields (a ∷ b ∷ c ∷ d ∷ [])) ≡ length (decimal a) + length (decimal b) + length (decimal c) + length (decimal d) + 4
 length_four a b c d = omega (arith, length_fields_more a b (c ∷ d ∷ []), length_three b c d)
 
+-- room for one number more
 fields_least : (n : ℕ) (ns : List ℕ) → length (decimal n) + 1 ≤ length (fields (n ∷ ns))
 fields_least n [] = omega (arith, length_end n line_end)
 fields_least n (m ∷ ns) = omega (arith, length-append (decimal n) (space ∷ fields (m ∷ ns)))

@@ -19,7 +19,7 @@ use Rattle.images.specs.Promises.{ReadAs, accepted}
 use Rattle.image_bytes.specs.RowBytes.{pool_in}
 use Rattle.images.proofs.PoolsRead.{devices_few, intervals_few, pool_in_valid, valid_pool_in, pool_of_state_in}
 
--- ---- faults
+-- ---- marks
 
 pub marked_size : (xs : List ℕ) → marked xs ≡ true → head_size ≤ length xs
 marked_size xs m = go (leb head_size (length xs)) refl
@@ -27,6 +27,8 @@ marked_size xs m = go (leb head_size (length xs)) refl
     go : (b : Bool) → leb head_size (length xs) ≡ b → head_size ≤ length xs
     go true e = leb-true head_size (length xs) e
     go false e = absurd (true≢false (sym m ∙ rw e))
+
+-- ---- faults
 
 module _ (xs : List ℕ) where
   pub counts : Sound xs → (devices_in xs ≤ 256) × (intervals_in xs ≤ 4096) × (length xs ≡ head_size + 6 * devices_in xs + 6 * intervals_in xs)

@@ -68,8 +68,9 @@ module _ (p : Pool) (lent : List Move) (k : Change) where
 
   -- a change of the valid pool, opened as o
   module _ (v : ValidPool p) (o : Opened) (table : List ℕ) (same : state_in o table ≡ state_of p) where
-    pub changed_refused : {x : Refusal} → Declined (λ l. change (state_in o table) l k) (length lent) x → Changed p lent k (refusal p (number x)) lent
-    changed_refused {x} declined = record {
+    pub changed_refused : {x : Refusal} {r : ChangeAnswer} → r ≡ refusal p (number x) → Declined (λ l. change (state_in o table) l k) (length lent) x
+        → Changed p lent k r lent
+    changed_refused {x} told declined = rw told (record {
       valid = λ w.
           let h : Declined (λ l. change (state_of p) l k) (length lent) x = subst (λ (t : State). Declined (λ l. change t l k) (length lent) x) same declined in
           let u = (claim (state_of p) v.valid as_moves k).refused (omega (arith, h.number as_moves as_many, number_some x)) in
@@ -81,7 +82,7 @@ module _ (p : Pool) (lent : List Move) (k : Change) where
             list = rw u.count;
           };
       invalid = λ i. absurd (i v);
-    }
+    })
 
     -- worked out as the plan r
     module _ {r : Plan} {turns next : List ℕ} (planned : Accepted (λ l. change (state_in o table) l k) (length lent) r turns next) where

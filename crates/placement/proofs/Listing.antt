@@ -4,7 +4,7 @@
 --   Listed turns t names lent list count start i      of t turns, i were passed; their moves, so many, stand in front of the list,
 --                                                     and behind them what was lent; turn i begins at point `start`
 --
--- Listed: listed_none, listed_on (a turn that changes nothing), listed_more, listed_end;
+-- Listed: listed_none, listed_as (of an equal list), listed_on (a turn that changes nothing), listed_more, listed_end;
 -- listed_size (the list's length stays), listed_room (for one move more), listed_points (of a turn, which are no more than are left)
 use mathlib.Core.Path.{◌≡◌, refl, sym, ap, ◌∙◌}
 use mathlib.Core.List.{List, [], ◌∷◌, ◌++◌, map, map-append, append_assoc}
@@ -41,6 +41,10 @@ pub record Listed (turns : List ℕ) (t : ℕ) (names : List ℕ) (lent list : L
 
 pub listed_none : (turns : List ℕ) (t : ℕ) (names : List ℕ) (lent : List Move) → Listed turns t names lent lent 0 0 0
 listed_none turns t names lent = record { moves = []; passed = passed_none turns t; counted = refl; written = refl }
+
+pub listed_as : {turns : List ℕ} {t : ℕ} {names : List ℕ} {lent list list' : List Move} {count start i : ℕ} → list' ≡ list
+    → Listed turns t names lent list count start i → Listed turns t names lent list' count start i
+listed_as e w = rw e w
 
 module _ {turns : List ℕ} {t : ℕ} {names : List ℕ} {lent list : List Move} {count start i : ℕ} (w : Listed turns t names lent list count start i) where
   front : length (rows_by names w.moves) ≡ count

@@ -80,7 +80,7 @@ fn same(has: &[u64; MAX_DEVICES], due: &[u64; MAX_DEVICES], n: usize) -> bool
     requires { n ≤ 256 }
     ensures { Decides result ((i : ℕ) → i < n → at has.now i ≡ at due.now i) }
 {
-    has[..n] == due[..n]
+    has[..n].iter().zip(&due[..n]).all(|(x, y)| x == y)
 }
 
 // What each row has of q intervals that give each of the n devices its due, and the range to them alone; none of

@@ -32,19 +32,19 @@ reply_report true b x z = refl
 reply_report false true x z = ap (λ n. record { number = n; whole = x.whole; remainder = x.remainder; difference = x.difference }) (sym z)
 reply_report false false x z = refl
 
-pub shared_of : {p : Pool} {id : ℕ} {r : Result Found Refusal} → FoundOf p id r → Shared p id (with_device (λ d. d.points) r)
-shared_of {p} {id} (found v h) = record {
+pub shared_of : {p : Pool} {id : ℕ} {r : Result Found Refusal} {a : Result ℕ Refusal} → FoundOf p id r → a ≡ with_device (λ d. d.points) r → Shared p id a
+shared_of {p} {id} (found v h) e = rw e (record {
   valid = λ k. found_as (λ d. d.points) h;
   reply = λ k. ap reply_of (found_as (λ d. d.points) h) ∙ reply_share (outside max_id id) (present id (state_of p).devices) _;
   invalid = λ n. absurd (n v);
   invalid_reply = λ n. absurd (n v);
-}
-shared_of (invalid n e) = record {
+})
+shared_of (invalid n f) e = rw (e, f) (record {
   valid = λ v. absurd (n v);
   reply = λ v. absurd (n v);
-  invalid = λ m. ap (with_device (λ d. d.points)) e;
-  invalid_reply = λ m. ap (λ r. reply_of (with_device (λ d. d.points) r)) e;
-}
+  invalid = λ m. refl;
+  invalid_reply = λ m. refl;
+})
 
 pub reported_of : {p : Pool} {id : ℕ} {r : Result Found Refusal} → FoundOf p id r → Reported p id (with_device report_from r)
 reported_of {p} {id} (found v h) = record {

@@ -1,6 +1,5 @@
 -- Laws of a device found by its id.
 --
---
 -- made: found_two (an id outside its limits), found_five, found_present (its row)
 -- used: found_as (a call that answers f of the device, or the same refusal)
 -- Measured: measured_in (of a valid state), measured_of, measured_all (of any pool, also where the device is refused)

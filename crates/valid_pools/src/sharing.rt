@@ -6,6 +6,7 @@ use pools::Pool;
 use refusals::Refusal;
 
 // The share of a device. 2 for a pool that is not valid or an id outside 1 to 65,535; 5 where it is absent.
+#[tactic(auto, using(crate::proofs::DeviceAnswers::shared_of))]
 pub fn share(pool: Pool, id: u64) -> Result<u64, Refusal>
     ensures { Shared pool id result }
 {

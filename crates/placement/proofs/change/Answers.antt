@@ -1,5 +1,6 @@
 -- `placement::change` meets its contract: a pool that is not valid and a refused change leave pool and list, and a planned change answers
 -- what the plan says.
+use native.Mathlib.Omega.{arith}
 use Rattle.plans.proofs.Planning.{planned_accepted, planned_declined}
 use Rattle.placement.proofs.Changes.{changed_invalid, changed_refused, changed_planned, moves_fit}
 use Rattle.placement.proofs.change.Goals as goal
@@ -14,8 +15,8 @@ plan-requires c =
 
 pub returns-in-Err : goal.returns-in-Err
 returns-in-Err c =
-    rw c.refused-in-Err.ensures
-    (changed_refused _ _ _ c.in-Some.ensures.valid c.in-Some.before c.open.new.table c.in-Some.ensures.opened.1 (planned_declined c.in-Err.ensures.planned))
+    changed_refused _ _ _ c.in-Some.ensures.valid c.in-Some.before c.open.new.table c.in-Some.ensures.opened.1 (grind arith)
+    (planned_declined c.in-Err.ensures.planned)
 
 pub write_moves-requires : goal.write_moves-requires
 write_moves-requires c =

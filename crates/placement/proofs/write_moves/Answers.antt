@@ -1,6 +1,9 @@
 -- `placement::write_moves` meets its contract. The loop's invariant: the moves of the turns passed stand in front, and the rest of the list stays.
+use Prim.Native.Nat.{◌+◌, ◌/◌}
 use native.Mathlib.Omega.{arith}
-use Rattle.placement.proofs.Listing.{listed_on, listed_more, listed_end, listed_size, listed_room, listed_points}
+use Rattle.std.proofs.lemmas.List.{set-get_or}
+use Rattle.slicing_core.specs.Rows.{at}
+use Rattle.placement.proofs.Listing.{Listed, listed_as, listed_on, listed_more, listed_end, listed_size, listed_room, listed_points}
 use Rattle.placement.proofs.write_moves.Goals as goal
 use Rattle.placement.proofs.write_moves.Goals.{then-from-to, else-from-to}
 
@@ -24,10 +27,14 @@ pub loop-i-preserved : goal.loop-i-preserved
 loop-i-preserved c =
     let w = c.loop-i.invariant in
     let h = c.loop-i-test.true in
+    let a = c.args in
+    let listed : Listed a.turns.now a.t a.names.now a.list.now c.if-from-to.list c.if-from-to.count (c.loop-i.start + at a.turns.now c.loop-i.i / 65536) (c.loop-i.i + 1) =
     elim c.if-from-to.branch [
       | then-from-to s ↦ rw (s.count-is, s.list-is) (listed_more w h s.if-from-to.true c.requires.2)
       | else-from-to s ↦ rw (s.count-is, s.list-is) (listed_on w h s.if-from-to.false)
-    ]
+    ] in
+    -- what is done to the list after that leaves it equal
+    listed_as (grind (arith, set-get_or)) listed
 
 pub returns : goal.returns
 returns c =
