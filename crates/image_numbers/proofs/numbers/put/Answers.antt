@@ -1,7 +1,8 @@
 -- `image_numbers::numbers::put` meets its contract: the low N bytes of the word stand in the place of those that were there.
+use native.Mathlib.Omega.{arith}
 use Rattle.image_numbers.proofs.Fronts.{put_low}
 use Rattle.image_numbers.proofs.numbers.put.Goals as goal
 
 pub returns : goal.returns
 returns g c =
-    put_low c.args.buffer.now _ c.args.i g.row.N c.args.x c.requires.0 (rw (← c.to_be_bytes.ensures) c.copy_from_slice.ensures.after)
+    put_low c.args.buffer.now _ c.args.i g.row.N c.args.x c.requires.0 (grind arith)
