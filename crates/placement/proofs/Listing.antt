@@ -4,6 +4,7 @@
 --   Listed turns t names lent list count start i      of t turns, i were passed; their moves, so many, stand in front of the list,
 --                                                     and behind them what was lent; turn i begins at point `start`
 --
+-- a list: put_back
 -- Listed: listed_none, listed_as (of an equal list), listed_on (a turn that changes nothing), listed_more, listed_end;
 -- listed_size (the list's length stays), listed_room (for one move more), listed_points (of a turn, which are no more than are left)
 use mathlib.Core.Path.{◌≡◌, refl, sym, ap, ◌∙◌}
@@ -11,8 +12,9 @@ use mathlib.Core.List.{List, [], ◌∷◌, ◌++◌, map, map-append, append_as
 use Prim.Native.Nat.{ℕ, ◌+◌, ◌/◌, ◌%◌, ◌≤◌, ◌<◌}
 use native.Mathlib.Omega.{arith}
 use native.Mathlib.Numerals.{add-one}
-use lib.ListN.{length, drop, set, length-append, length-map, length-drop}
+use lib.ListN.{length, drop, set, get_or, length-append, length-map, length-drop}
 use lib.Seq.{take_at, set_split}
+use Rattle.std.proofs.lemmas.List.{set-get_or}
 use Rattle.std.proofs.lemmas.Slice.{drop-append-drop}
 use Rattle.slicing.specs.Runs.{total}
 use Rattle.slicing.specs.SixSteps as Rules
@@ -41,6 +43,11 @@ pub record Listed (turns : List ℕ) (t : ℕ) (names : List ℕ) (lent list : L
 
 pub listed_none : (turns : List ℕ) (t : ℕ) (names : List ℕ) (lent : List Move) → Listed turns t names lent lent 0 0 0
 listed_none turns t names lent = record { moves = []; passed = passed_none turns t; counted = refl; written = refl }
+
+-- a move put back where it stands
+pub put_back : (list : List Move) (i : ℕ) (d : Move)
+    → set list i (record { start = (get_or list i d).start; length = (get_or list i d).length; from = (get_or list i d).from; to = (get_or list i d).to }) ≡ list
+put_back list i d = set-get_or list i d
 
 pub listed_as : {turns : List ℕ} {t : ℕ} {names : List ℕ} {lent list list' : List Move} {count start i : ℕ} → list' ≡ list
     → Listed turns t names lent list count start i → Listed turns t names lent list' count start i

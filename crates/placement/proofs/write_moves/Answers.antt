@@ -3,7 +3,7 @@ use Prim.Native.Nat.{◌+◌, ◌/◌}
 use native.Mathlib.Omega.{arith}
 use Rattle.std.proofs.lemmas.List.{set-get_or}
 use Rattle.slicing_core.specs.Rows.{at}
-use Rattle.placement.proofs.Listing.{Listed, listed_as, listed_on, listed_more, listed_end, listed_size, listed_room, listed_points}
+use Rattle.placement.proofs.Listing.{Listed, put_back, listed_as, listed_on, listed_more, listed_end, listed_size, listed_room, listed_points}
 use Rattle.placement.proofs.write_moves.Goals as goal
 use Rattle.placement.proofs.write_moves.Goals.{then-from-to, else-from-to}
 
@@ -34,7 +34,7 @@ loop-i-preserved c =
       | else-from-to s ↦ rw (s.count-is, s.list-is) (listed_on w h s.if-from-to.false)
     ] in
     -- what is done to the list after that leaves it equal
-    listed_as (grind (arith, set-get_or)) listed
+    listed_as (grind (arith, set-get_or, put_back)) listed
 
 pub returns : goal.returns
 returns c =

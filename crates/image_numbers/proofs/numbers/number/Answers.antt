@@ -5,6 +5,7 @@ use native.Mathlib.Omega.{arith}
 use Rattle.image_numbers.proofs.ByteNumbers.{number_at_below, word_number}
 use Rattle.image_numbers.proofs.numbers.number.Goals as goal
 
+-- what equals a number has its bound
 bounded : {r n most : ℕ} → r ≡ n → n < most → (r ≡ n) × (r < most)
 bounded e h = (e, rw e h)
 

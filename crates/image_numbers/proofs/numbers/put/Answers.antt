@@ -1,8 +1,9 @@
 -- `image_numbers::numbers::put` meets its contract: the low N bytes of the word stand in the place of those that were there.
 use native.Mathlib.Omega.{arith}
+use lib.Seq.{take-take}
 use Rattle.image_numbers.proofs.Fronts.{put_low}
 use Rattle.image_numbers.proofs.numbers.put.Goals as goal
 
 pub returns : goal.returns
 returns g c =
-    put_low c.args.buffer.now _ c.args.i g.row.N c.args.x c.requires.0 (grind arith)
+    put_low c.args.buffer.now _ c.args.i g.row.N c.args.x c.requires.0 (grind (arith, take-take))

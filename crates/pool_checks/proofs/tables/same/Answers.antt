@@ -29,5 +29,5 @@ returns c =
     let has = c.args.has.now in
     let due = c.args.due.now in
     same_parts has due c.args.n (omega (arith, c.requires, c.told-has)) (omega (arith, c.requires, c.told-due)) c.all.result
-    (same_from_all c.all.new.self _ _ _ _ c.all.ensures.ran (YieldsList-from_zip (YieldsList-from_slice _ cc) (YieldsList-from_slice _ cc)) (search rules)
+    (same_from_all c.all.new.self _ _ _ _ c.all.ensures.ran (YieldsList-from_zip (YieldsList-from_slice _ (grind arith)) (YieldsList-from_slice _ (grind arith))) (search rules)
     (λ x q k. search (rules, tests)) (λ x q k. search (rules, tests)))
