@@ -17,6 +17,7 @@ find-requires c =
 pub returns-in_default : goal.returns-in_default
 returns-in_default c =
     let known = sym c.outside.ensures ∙ c.if-outside.false in
+    -- the refusal; `open_few` is for one that is chosen by the number of devices (docs/DECISIONS.md 96)
     let a = c.args in record {
       planned = remove_five a.before a.table.now a.id known (c.in_default.ensures.1 a.before.capacities) (grind (arith, open_few c.requires.0));
       work_len = (c.requires.1, c.requires.2);

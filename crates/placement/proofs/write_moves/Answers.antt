@@ -33,7 +33,7 @@ loop-i-preserved c =
       | then-from-to s ↦ rw (s.count-is, s.list-is) (listed_more w h s.if-from-to.true c.requires.2)
       | else-from-to s ↦ rw (s.count-is, s.list-is) (listed_on w h s.if-from-to.false)
     ] in
-    -- what is done to the list after that leaves it equal
+    -- nothing else is written; with the two lemmas a move put back where it stands is nothing else (docs/DECISIONS.md 96)
     listed_as (grind (arith, set-get_or, put_back)) listed
 
 pub returns : goal.returns

@@ -6,4 +6,5 @@ use Rattle.image_numbers.proofs.numbers.put.Goals as goal
 
 pub returns : goal.returns
 returns g c =
+    -- the bytes that are stored; `take-take` is for a part of a part (docs/DECISIONS.md 96)
     put_low c.args.buffer.now _ c.args.i g.row.N c.args.x c.requires.0 (grind (arith, take-take))
